@@ -1,5 +1,6 @@
 -- Bits in common, and the first bits of a frame.
-use Rattle.std.proofs.Common.{◌≡◌, ℕ, zero, suc, ◌+◌, ◌*◌, ◌/◌, ◌%◌, ◌^◌, ◌<◌, ◌≤◌, List, [], ◌∷◌, ◌++◌, length, take, drop, get_or, Bool, true, false, ◌==◌, if◌then◌else◌, refl, sym, ◌∙◌, ap, subst, arith, append_assoc, inl, inr, length-append}
+use Rattle.std.proofs.Common.{◌≡◌, ℕ, zero, suc, ◌+◌, ◌*◌, ◌/◌, ◌%◌, ◌^◌, ◌<◌, ◌≤◌, List, [], ◌∷◌, ◌++◌, length, take, drop, get_or, Bool, true, false, ◌==◌, if◌then◌else◌, refl, sym, ◌∙◌, ap, subst}
+use Rattle.std.proofs.Common.{arith, append_assoc, inl, inr, length-append}
 use Rattle.std.proofs.lemmas.List.{append-nil, get_or-take, length-take-le}
 use Rattle.std.proofs.lemmas.Grind.{common_steps}
 use Rattle.std.proofs.lemmas.Nat.{pow_pos}
@@ -42,7 +43,8 @@ pub shared_more : (c u w : List Bool) (n m k : ℕ) → n ≤ length u → m ≤
 shared_more c u w n m k nu mw kn km e i =
     let same : get_or (take n u) k false ≡ get_or (take m w) k false = get_or-take n u k false kn ∙ e ∙ sym (get_or-take m w k false km) in
     let next : common (drop k (take n u)) (drop k (take m w)) ≡ get_or u k false ∷ common (drop (suc k) (take n u)) (drop (suc k) (take m w)) =
-    common_at (take n u) (take m w) k (let z : length (take n u) ≡ n = length-take-le n u nu in omega (arith, z, kn)) (let z : length (take m w) ≡ m = length-take-le m w mw in omega (arith, z, km)) same
+    common_at (take n u) (take m w) k (let z : length (take n u) ≡ n = length-take-le n u nu in omega (arith, z, kn)) (let z : length (take m w) ≡ m = length-take-le m w mw in omega (arith, z, km))
+    same
     ∙ ap (λ t. t ∷ common (drop (suc k) (take n u)) (drop (suc k) (take m w))) (get_or-take n u k false kn) in
     let R : List Bool = common (drop (suc k) (take n u)) (drop (suc k) (take m w)) in
     let whole : c ≡ take (suc k) u ++ R =

@@ -8,7 +8,8 @@ use Rattle.nfc_base.specs.declared.event.Event.TheVariants.{Reset, Request, Answ
 use Rattle.nfc_base.specs.declared.event.Fate.{Fate}
 use Rattle.nfc_base.specs.declared.event.Fate.TheVariants.{Pass, Damage, Lose, Break}
 use Rattle.air_core.specs.Joint.{Joint, Nothing, Single, Clashing}
-use Rattle.air_core.specs.Conversation.{AirModel, Note, note, Next, Over, LightUp, Asks, IsDemand, EachDue, joint_events, joint_back, replay, turn_events, turn_heard, Move, Light, Ask, trace_of, Moment, Going, receptions}
+use Rattle.air_core.specs.Conversation.{AirModel, Note, note, Next, Over, LightUp, Asks, IsDemand, EachDue, joint_events, joint_back, replay, turn_events, turn_heard, Move, Light, Ask, trace_of}
+use Rattle.air_core.specs.Conversation.{Moment, Going, receptions}
 use Rattle.air_core.specs.laws.Turning.{due_weaker}
 
 pub no_demand : (n : Next) → n ≡ Over → IsDemand n → ⊥
@@ -45,7 +46,8 @@ module _ {W : Type 0} (m : AirModel W) where
       asked true h = turn_first w f x y (trace_of m (replay m w (turn_events m w f x y)) ks)
       asked false h = h
 
-  joint_known : (f : Signal) (j : Joint) (y : Fate) (t : List Event) → back_of t ≡ backs.Nothing → receptions (Request f Pass ∷ (joint_events j y ++ t)) ≡ note (heard_by Pass (joint_back j y)) ∷ receptions t
+  joint_known : (f : Signal) (j : Joint) (y : Fate) (t : List Event) → back_of t ≡ backs.Nothing
+      → receptions (Request f Pass ∷ (joint_events j y ++ t)) ≡ note (heard_by Pass (joint_back j y)) ∷ receptions t
   joint_known f Nothing y t h = ap (λ b. note (heard_by Pass b) ∷ receptions t) h
   joint_known f (Single g) y t h = refl
   joint_known f (Clashing g) y t h = refl

@@ -91,7 +91,8 @@ module _ {I T : Type 0} (L : StopAndWait I T Signal) (reply : List ℕ) where
   reached w f = record (counted w) { arrived = w.arrived ++ f ∷ [] }
 
   back_comes : (w : exchanges.World I T Signal) (f a : Signal) (t : T) (asked given : Option (List ℕ)) (delivered : List (List ℕ)) (y : Fate)
-      → ComesTo w (transmitted L (λ p. reply) (record (reached w f) { answering = t; stage = exchanges.Answers a; given = given; delivered = delivered }) (exchanges.Answers a) y) (answered L t asked f (Some a) y)
+      → ComesTo w (transmitted L (λ p. reply) (record (reached w f) { answering = t; stage = exchanges.Answers a; given = given; delivered = delivered }) (exchanges.Answers a) y)
+      (answered L t asked f (Some a) y)
   back_comes w f a t asked given delivered Pass = record { answering = refl; arrives = refl; sent = omega arith; stage = refl }
   back_comes w f a t asked given delivered Damage = record { answering = refl; arrives = refl; sent = omega arith; stage = refl }
   back_comes w f a t asked given delivered Lose = record { answering = refl; arrives = refl; sent = omega arith; stage = refl }

@@ -10,7 +10,8 @@ use Rattle.nfc_base.specs.declared.event.Event.TheVariants.{Reset, Request, Answ
 use Rattle.nfc_base.specs.declared.event.Fate.{Fate}
 use Rattle.nfc_base.specs.declared.event.Fate.TheVariants.{Pass, Damage, Lose, Break}
 use Rattle.air_core.specs.Joint.{Joint, Nothing, Single, Clashing}
-use Rattle.air_core.specs.Conversation.{AirModel, Note, Next, Over, LightUp, Asks, receptions, EachDue, first_fate, later_fates, queue_after, FatesFrom, joint_events, replay, turn_events, Move, Light, Ask, trace_of, AreTurns}
+use Rattle.air_core.specs.Conversation.{AirModel, Note, Next, Over, LightUp, Asks, receptions, EachDue, first_fate, later_fates, queue_after, FatesFrom, joint_events, replay, turn_events, Move, Light}
+use Rattle.air_core.specs.Conversation.{Ask, trace_of, AreTurns}
 use Rattle.air_core.proofs.Following.{same_asked, light_is_no_request, turn_first, turn_split, nothing_more}
 
 -- Behind some events these ones are due, up to where nothing is, and have the fates of the queue.

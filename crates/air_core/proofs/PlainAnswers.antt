@@ -59,7 +59,17 @@ module _ {L : Type 0} (k : Ghosts L) (laws : Laws k) (old new : Air L) (place st
     pub calm : (o ≡ Memory) ⊎ ((old.lit ≡ false) ⊎ (((tag_step k tag f).answer ≡ None) ⊎ (0 < noise waits.events)))
 
   left_of : (tag : L) (o : AskFault) → EndsBy k old new place f tag (Err o) → Left tag o
-  left_of tag FieldLost (inl h) = record { turns = 0; heard = h.1.heard; s = Asking 0 (f ∷ []); left = heard_times k tag f h.1.heard; waits = h.1.waits; most = omega arith; is = inl refl; stands = (h.1.lit ∙ h.0, f, inr refl); calm = inr (inl h.0) }
+  left_of tag FieldLost (inl h) = record {
+    turns = 0;
+    heard = h.1.heard;
+    s = Asking 0 (f ∷ []);
+    left = heard_times k tag f h.1.heard;
+    waits = h.1.waits;
+    most = omega arith;
+    is = inl refl;
+    stands = (h.1.lit ∙ h.0, f, inr refl);
+    calm = inr (inl h.0);
+  }
   left_of tag FieldLost (inr h) = record {
     turns = h.turns;
     heard = h.heard;
@@ -71,7 +81,17 @@ module _ {L : Type 0} (k : Ghosts L) (laws : Laws k) (old new : Air L) (place st
     stands = (h.dim, f, inl refl);
     calm = inr (inr (inr h.noisy));
   }
-  left_of tag SixBad h = record { turns = 6; heard = h.heard; s = after_bad f 6; left = heard_times k tag f h.heard; waits = h.waits; most = omega arith; is = inl refl; stands = (h.lit ∙ h.begun (omega arith), f, refl); calm = inr (inr (h.calm (omega arith))) }
+  left_of tag SixBad h = record {
+    turns = 6;
+    heard = h.heard;
+    s = after_bad f 6;
+    left = heard_times k tag f h.heard;
+    waits = h.waits;
+    most = omega arith;
+    is = inl refl;
+    stands = (h.lit ∙ h.begun (omega arith), f, refl);
+    calm = inr (inr (h.calm (omega arith)));
+  }
   left_of tag Memory h = record {
     turns = h.bad;
     heard = h.goes.heard;

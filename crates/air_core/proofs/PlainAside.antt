@@ -19,8 +19,11 @@ pub record Laws {L : Type 0} (k : Ghosts L) : Type 0 where
   pub step_keeps : (l : L) (f : Signal) (reply : Option (List ℕ)) → StaysSame k.machine.tech k.identifier k.commands l (k.machine.after l f reply)
   pub dark_keeps : (l : L) → StaysSame k.machine.tech k.identifier k.commands l (k.machine.darkened l) × (k.store (k.machine.darkened l) ≡ k.store l)
   pub dark_rests : (l : L) → (k.is_ready (k.machine.darkened l) ≡ false) × (k.is_selected (k.machine.darkened l) ≡ false)
-  pub rests : (l : L) (bytes : List ℕ) → k.machine.tech l ≡ A → k.is_ready l ≡ false → k.is_selected l ≡ false → (k.machine.handed l (whole_a bytes) ≡ Untouched) × (k.machine.answer l (whole_a bytes) None ≡ None) × (k.is_ready (k.machine.after l (whole_a bytes) None) ≡ false) × (k.is_selected (k.machine.after l (whole_a bytes) None) ≡ false)
-  pub ignores : (l : L) (other : List ℕ) (f : Signal) → IsAddressedIn (k.machine.tech l) other f → (other ≡ k.identifier l → ⊥) → (k.machine.handed l f ≡ Untouched) × (k.machine.answer l f None ≡ None)
+  pub rests : (l : L) (bytes : List ℕ) → k.machine.tech l ≡ A → k.is_ready l ≡ false → k.is_selected l ≡ false
+      → (k.machine.handed l (whole_a bytes) ≡ Untouched) × (k.machine.answer l (whole_a bytes) None ≡ None) × (k.is_ready (k.machine.after l (whole_a bytes) None) ≡ false)
+      × (k.is_selected (k.machine.after l (whole_a bytes) None) ≡ false)
+  pub ignores : (l : L) (other : List ℕ) (f : Signal) → IsAddressedIn (k.machine.tech l) other f → (other ≡ k.identifier l → ⊥)
+      → (k.machine.handed l f ≡ Untouched) × (k.machine.answer l f None ≡ None)
 
 module _ {L : Type 0} (k : Ghosts L) (laws : Laws k) where
   -- another listener at a frame: it is silent, and stays aside

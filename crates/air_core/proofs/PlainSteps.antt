@@ -1,5 +1,6 @@
 -- How a wait of a plain tag goes on by one turn, and how it ends.
-use Rattle.std.proofs.Common.{◌≡◌, ℕ, zero, suc, ◌+◌, ◌<◌, ◌≤◌, ◌⊎◌, inl, inr, List, [], ◌∷◌, ◌++◌, length, true, if◌then◌else◌, Option, Some, None, refl, sym, ◌∙◌, ap, subst, append-nil, arith, false}
+use Rattle.std.proofs.Common.{◌≡◌, ℕ, zero, suc, ◌+◌, ◌<◌, ◌≤◌, ◌⊎◌, inl, inr, List, [], ◌∷◌, ◌++◌, length, true, if◌then◌else◌, Option, Some, None, refl, sym, ◌∙◌, ap, subst, append-nil, arith}
+use Rattle.std.proofs.Common.{false}
 use Rattle.std.specs.Prelude.{map}
 use Rattle.nfc_base.specs.declared.frame.Tech.{Tech}
 use Rattle.nfc_base.specs.declared.event.Event.{Event}
@@ -63,18 +64,21 @@ module _ {L : Type 0} (k : Ghosts L) where
       goes_more : (h : Heard) (es : List Event) (n' : ℕ) → TurnsTo (quiet_air k.machine) (moment mid) (moment new) f (Some h)
           → new.trace ≡ mid.trace ++ es → back_of es ≡ backs.Nothing → length es ≤ 2 → IsAlone k (k.identifier tag) new.listeners place (heard_times k tag f n')
           → times f n ++ obeyed_in (k.machine.tech tag) es ≡ times f n' → answered_in es ≡ [] → stand bad (f ∷ []) (note (Some h) ∷ []) ≡ after_bad f (suc bad)
-          → (zs : List (List ℕ)) → passed (k.commands tag) (plain_state (k.store tag)) (times f n') ≡ passed (k.commands tag) (plain_state (k.store tag)) (times f n) ++ zs → Follows held.store (stores_after k place (world mid) es) zs
+          → (zs : List (List ℕ)) → passed (k.commands tag) (plain_state (k.store tag)) (times f n') ≡ passed (k.commands tag) (plain_state (k.store tag)) (times f n) ++ zs
+          → Follows held.store (stores_after k place (world mid) es) zs
           → new.lit ≡ true → ((tag_step k tag f).answer ≡ None) ⊎ (0 < noise es) → GoesOn k old new place f tag (suc bad)
       goes_more h es n' turn trace fresh short alone obeyed answered stands zs more images bright (inl none) = record {
         heard = n';
-        waits = extend k old mid new place f tag bad n bad (after_bad f bad) (heard_times k tag f n) (Some h) es n' (after_bad f (suc bad)) (heard_times k tag f n') [] w (asking_bad f bad bound) turn trace fresh short alone obeyed answered stands zs more images;
+        waits = extend k old mid new place f tag bad n bad (after_bad f bad) (heard_times k tag f n) (Some h) es n' (after_bad f (suc bad)) (heard_times k tag f n') [] w (asking_bad f bad bound) turn
+            trace fresh short alone obeyed answered stands zs more images;
         lit = bright ∙ sym start;
         begun = λ h. start;
         calm = λ h. inl none;
       }
       goes_more h es n' turn trace fresh short alone obeyed answered stands zs more images bright (inr noisy) = record {
         heard = n';
-        waits = extend k old mid new place f tag bad n bad (after_bad f bad) (heard_times k tag f n) (Some h) es n' (after_bad f (suc bad)) (heard_times k tag f n') [] w (asking_bad f bad bound) turn trace fresh short alone obeyed answered stands zs more images;
+        waits = extend k old mid new place f tag bad n bad (after_bad f bad) (heard_times k tag f n) (Some h) es n' (after_bad f (suc bad)) (heard_times k tag f n') [] w (asking_bad f bad bound) turn
+            trace fresh short alone obeyed answered stands zs more images;
         lit = bright ∙ sym start;
         begun = λ h. start;
         calm = λ h. inr (let e : noise (w.events ++ es) ≡ noise w.events + noise es = noise_append w.events es in omega (arith, e, noisy));
@@ -84,12 +88,14 @@ module _ {L : Type 0} (k : Ghosts L) where
       darkens : (es : List Event) (n' : ℕ) → TurnsTo (quiet_air k.machine) (moment mid) (moment new) f None
           → new.trace ≡ mid.trace ++ es → back_of es ≡ backs.Nothing → length es ≤ 2 → IsAlone k (k.identifier tag) new.listeners place (k.machine.darkened (heard_times k tag f n'))
           → times f n ++ obeyed_in (k.machine.tech tag) es ≡ times f n' → answered_in es ≡ []
-          → (zs : List (List ℕ)) → passed (k.commands tag) (plain_state (k.store tag)) (times f n') ≡ passed (k.commands tag) (plain_state (k.store tag)) (times f n) ++ zs → Follows held.store (stores_after k place (world mid) es) zs
+          → (zs : List (List ℕ)) → passed (k.commands tag) (plain_state (k.store tag)) (times f n') ≡ passed (k.commands tag) (plain_state (k.store tag)) (times f n) ++ zs
+          → Follows held.store (stores_after k place (world mid) es) zs
           → 0 < noise es → new.lit ≡ false → Darkened k old new place f tag
       darkens es n' turn trace fresh short alone obeyed answered zs more images noisy dim = record {
         turns = suc bad;
         heard = n';
-        waits = extend k old mid new place f tag bad n bad (after_bad f bad) (heard_times k tag f n) None es n' (Broken ask.FieldLost (f ∷ [])) (k.machine.darkened (heard_times k tag f n')) [] w (asking_bad f bad bound) turn trace fresh short alone obeyed answered refl zs more images;
+        waits = extend k old mid new place f tag bad n bad (after_bad f bad) (heard_times k tag f n) None es n' (Broken ask.FieldLost (f ∷ [])) (k.machine.darkened (heard_times k tag f n')) [] w
+            (asking_bad f bad bound) turn trace fresh short alone obeyed answered refl zs more images;
         bound = omega (arith, bound);
         noisy = let e : noise (w.events ++ es) ≡ noise w.events + noise es = noise_append w.events es in omega (arith, e, noisy);
         dim = dim;
@@ -100,27 +106,35 @@ module _ {L : Type 0} (k : Ghosts L) where
           → IsAlone k (k.identifier tag) new.listeners place (left_by k (heard_times k tag f n) f x y o)
           → Follows held.store (stores_after k place (world mid) (tag_events f x y o)) (passed (k.commands tag) held (newly x f)) → Outcome old new place f tag bad (tag_heard x y o)
       finish Damage y o says turn trace after alone images =
-          goes_more Silent (tag_events f Damage y o) n turn trace refl (tag_most f Damage y o) alone (append-nil (times f n)) refl refl [] same_passed images (ap (λ v. v.lit) after ∙ lit) (inr (omega arith))
+          goes_more Silent (tag_events f Damage y o) n turn trace refl (tag_most f Damage y o) alone (append-nil (times f n)) refl refl [] same_passed images (ap (λ v. v.lit) after ∙ lit)
+          (inr (omega arith))
       finish Lose y o says turn trace after alone images =
-          goes_more Silent (tag_events f Lose y o) n turn trace refl (tag_most f Lose y o) alone (append-nil (times f n)) refl refl [] same_passed images (ap (λ v. v.lit) after ∙ lit) (inr (omega arith))
-      finish Break y o says turn trace after alone images = darkens (tag_events f Break y o) n turn trace refl (tag_most f Break y o) alone (append-nil (times f n)) refl [] same_passed images (omega arith) (ap (λ v. v.lit) after)
+          goes_more Silent (tag_events f Lose y o) n turn trace refl (tag_most f Lose y o) alone (append-nil (times f n)) refl refl [] same_passed images (ap (λ v. v.lit) after ∙ lit)
+          (inr (omega arith))
+      finish Break y o says turn trace after alone images = darkens (tag_events f Break y o) n turn trace refl (tag_most f Break y o) alone (append-nil (times f n)) refl [] same_passed images
+          (omega arith) (ap (λ v. v.lit) after)
       finish Pass y None says turn trace after alone images =
-          goes_more Silent (tag_events f Pass y None) (suc n) turn trace refl (tag_most f Pass y None) alone (obeyed_once f (k.machine.tech tag) n y None tech) refl refl _ (passed_more (k.commands tag) (plain_state (k.store tag)) f n) images (ap (λ v. v.lit) after ∙ lit) (inl says)
+          goes_more Silent (tag_events f Pass y None) (suc n) turn trace refl (tag_most f Pass y None) alone (obeyed_once f (k.machine.tech tag) n y None tech) refl refl
+          _ (passed_more (k.commands tag) (plain_state (k.store tag)) f n) images (ap (λ v. v.lit) after ∙ lit) (inl says)
       finish Pass Pass (Some g) says turn trace after alone images = record {
         turns = suc bad;
         heard = n;
-        waits = extend k old mid new place f tag bad n bad (after_bad f bad) (heard_times k tag f n) (Some (Whole g)) (tag_events f Pass Pass (Some g)) (suc n) (Asking 0 []) (heard_times k tag f (suc n)) (f ∷ []) w (asking_bad f bad bound) turn trace refl
+        waits = extend k old mid new place f tag bad n bad (after_bad f bad) (heard_times k tag f n) (Some (Whole g)) (tag_events f Pass Pass (Some g)) (suc n) (Asking 0 [])
+            (heard_times k tag f (suc n)) (f ∷ []) w (asking_bad f bad bound) turn trace refl
             (tag_most f Pass Pass (Some g)) alone (obeyed_once f (k.machine.tech tag) n Pass (Some g) tech) refl refl _ (passed_more (k.commands tag) (plain_state (k.store tag)) f n) images;
         bound = omega (arith, bound);
         lit = ap (λ v. v.lit) after ∙ lit;
         says = says;
       }
       finish Pass Damage (Some g) says turn trace after alone images =
-          goes_more Damaged (tag_events f Pass Damage (Some g)) (suc n) turn trace refl (tag_most f Pass Damage (Some g)) alone (obeyed_once f (k.machine.tech tag) n Damage (Some g) tech) refl refl _ (passed_more (k.commands tag) (plain_state (k.store tag)) f n) images (ap (λ v. v.lit) after ∙ lit) (inr (omega arith))
+          goes_more Damaged (tag_events f Pass Damage (Some g)) (suc n) turn trace refl (tag_most f Pass Damage (Some g)) alone (obeyed_once f (k.machine.tech tag) n Damage (Some g) tech) refl refl
+          _ (passed_more (k.commands tag) (plain_state (k.store tag)) f n) images (ap (λ v. v.lit) after ∙ lit) (inr (omega arith))
       finish Pass Lose (Some g) says turn trace after alone images =
-          goes_more Silent (tag_events f Pass Lose (Some g)) (suc n) turn trace refl (tag_most f Pass Lose (Some g)) alone (obeyed_once f (k.machine.tech tag) n Lose (Some g) tech) refl refl _ (passed_more (k.commands tag) (plain_state (k.store tag)) f n) images (ap (λ v. v.lit) after ∙ lit) (inr (omega arith))
+          goes_more Silent (tag_events f Pass Lose (Some g)) (suc n) turn trace refl (tag_most f Pass Lose (Some g)) alone (obeyed_once f (k.machine.tech tag) n Lose (Some g) tech) refl refl
+          _ (passed_more (k.commands tag) (plain_state (k.store tag)) f n) images (ap (λ v. v.lit) after ∙ lit) (inr (omega arith))
       finish Pass Break (Some g) says turn trace after alone images =
-          darkens (tag_events f Pass Break (Some g)) (suc n) turn trace refl (tag_most f Pass Break (Some g)) alone (obeyed_once f (k.machine.tech tag) n Break (Some g) tech) refl _ (passed_more (k.commands tag) (plain_state (k.store tag)) f n) images (omega arith) (ap (λ v. v.lit) after)
+          darkens (tag_events f Pass Break (Some g)) (suc n) turn trace refl (tag_most f Pass Break (Some g)) alone (obeyed_once f (k.machine.tech tag) n Break (Some g) tech) refl
+          _ (passed_more (k.commands tag) (plain_state (k.store tag)) f n) images (omega arith) (ap (λ v. v.lit) after)
 
     module _ (old mid : Air L) (place : ℕ) (f : Signal) (tag : L) (bad : ℕ) (steady : IsSteady k tag f) (may : MayTell k tag f) (named : IsNamedIn (k.machine.tech tag) (k.identifier tag))
         (goes : GoesOn k old mid place f tag bad) where

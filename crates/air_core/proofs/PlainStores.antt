@@ -20,7 +20,8 @@ after_stays : (step : TagState → Signal → TagStep) (s : TagState) (f : Signa
 after_stays step s f e zero = refl
 after_stays step s f e (suc n) = ap (λ t. after_all step t (times f n)) e ∙ after_stays step s f e n
 
-pub after_times : (step : TagState → Signal → TagStep) (s : TagState) (f : Signal) → (step (step s f).after f).after ≡ (step s f).after → (n : ℕ) → after_all step s (times f (suc n)) ≡ (step s f).after
+pub after_times : (step : TagState → Signal → TagStep) (s : TagState) (f : Signal) → (step (step s f).after f).after ≡ (step s f).after → (n : ℕ)
+    → after_all step s (times f (suc n)) ≡ (step s f).after
 after_times step s f e n = after_stays step (step s f).after f e n
 
 -- once more

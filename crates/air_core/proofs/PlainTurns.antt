@@ -1,5 +1,6 @@
 -- One turn with a tag that is alone in its field.
-use Rattle.std.proofs.Common.{◌≡◌, ℕ, zero, suc, ◌+◌, ◌<◌, ◌≤◌, List, [], ◌∷◌, ◌++◌, length, Bool, true, false, nat_lt, if◌then◌else◌, Option, Some, None, inl, inr, ◌⊎◌, refl, sym, ◌∙◌, ap, subst, append_assoc, arith}
+use Rattle.std.proofs.Common.{◌≡◌, ℕ, zero, suc, ◌+◌, ◌<◌, ◌≤◌, List, [], ◌∷◌, ◌++◌, length, Bool, true, false, nat_lt, if◌then◌else◌, Option, Some, None, inl, inr, ◌⊎◌, refl, sym, ◌∙◌, ap, subst}
+use Rattle.std.proofs.Common.{append_assoc, arith}
 use Rattle.std.specs.Prelude.{map}
 use Rattle.std.specs.List.{filter, filter_map, cons_option}
 use Rattle.std.proofs.lemmas.List.{length-append, append_cancel_left}
@@ -154,11 +155,13 @@ module _ {L : Type 0} (k : Ghosts L) where
       (follows_on (k.store tag) S (passed step s (times f n)) (stores_after k place (world mid) es) zs w.images (subst R (sym (last_passed step s (times f n))) images)))
 
   -- one more turn of a wait
-  abbrev pub extend : (old mid new : Air L) (place : ℕ) (f : Signal) (tag : L) (turns n bad : ℕ) (begun : Standing) (lk : L) (h : Option Heard) (es : List Event) (n' : ℕ) (s : Standing) (left : L) (done : List Signal)
+  abbrev pub extend : (old mid new : Air L) (place : ℕ) (f : Signal) (tag : L) (turns n bad : ℕ) (begun : Standing) (lk : L) (h : Option Heard) (es : List Event) (n' : ℕ) (s : Standing) (left : L)
+      (done : List Signal)
       → Waited k old mid place f tag turns n begun lk [] → begun ≡ Asking bad (f ∷ [])
       → TurnsTo (quiet_air k.machine) (moment mid) (moment new) f h → new.trace ≡ mid.trace ++ es → back_of es ≡ backs.Nothing → length es ≤ 2
       → IsAlone k (k.identifier tag) new.listeners place left → times f n ++ obeyed_in (k.machine.tech tag) es ≡ times f n' → answered_in es ≡ done
-      → stand bad (f ∷ []) (note h ∷ []) ≡ s → (zs : List (List ℕ)) → passed (k.commands tag) (plain_state (k.store tag)) (times f n') ≡ passed (k.commands tag) (plain_state (k.store tag)) (times f n) ++ zs
+      → stand bad (f ∷ []) (note h ∷ []) ≡ s → (zs : List (List ℕ)) → passed (k.commands tag) (plain_state (k.store tag)) (times f n') ≡ passed (k.commands tag) (plain_state (k.store tag)) (times f n)
+      ++ zs
       → Follows (after_all (k.commands tag) (plain_state (k.store tag)) (times f n)).store (stores_after k place (world mid) es) zs → Waited k old new place f tag (suc turns) n' s left done
   extend old mid new place f tag turns n bad begun lk h es n' s left done w asks turn trace fresh short alone obeyed answered stands zs more images =
       let sum : length (w.events ++ es) ≡ length w.events + length es = length-append w.events es in

@@ -27,7 +27,8 @@ passed_stays step s f e (suc n) =
     let P : TagState → Type 0 = λ t. AllByRecursion (λ x. x ≡ s.store) (passed step t (times f n)) in
     (ap (λ t. t.store) e, subst P (sym e) (passed_stays step s f e n))
 
-passed_times : (step : TagState → Signal → TagStep) (s : TagState) (f : Signal) → (step (step s f).after f).after ≡ (step s f).after → (n : ℕ) → AllByRecursion (λ x. x ≡ (step s f).after.store) (passed step s (times f n))
+passed_times : (step : TagState → Signal → TagStep) (s : TagState) (f : Signal) → (step (step s f).after f).after ≡ (step s f).after → (n : ℕ)
+    → AllByRecursion (λ x. x ≡ (step s f).after.store) (passed step s (times f n))
 passed_times step s f e zero = tt
 passed_times step s f e (suc n) = (refl, passed_stays step (step s f).after f e n)
 
@@ -51,7 +52,8 @@ module _ {L : Type 0} (k : Ghosts L) where
 
   pub heard_same : Laws k → (l : L) (f : Signal) (n : ℕ) → (k.machine.tech (heard_times k l f n) ≡ k.machine.tech l) × (k.identifier (heard_times k l f n) ≡ k.identifier l)
   heard_same laws l f zero = (refl, refl)
-  heard_same laws l f (suc n) = ((laws.step_keeps (heard_times k l f n) f None).tech' ∙ (heard_same laws l f n).0, (laws.step_keeps (heard_times k l f n) f None).identifier' ∙ (heard_same laws l f n).1)
+  heard_same laws l f (suc n) =
+      ((laws.step_keeps (heard_times k l f n) f None).tech' ∙ (heard_same laws l f n).0, (laws.step_keeps (heard_times k l f n) f None).identifier' ∙ (heard_same laws l f n).1)
 
   -- what a link shows after a wait
   pub record Shown (a b : PlainSeen L) (f : Signal) (tag : L) (turns heard : ℕ) (done : List Signal) (events : List Event) : Type 0 where
@@ -166,7 +168,8 @@ module _ {L : Type 0} (k : Ghosts L) where
           ∙ after_times (plain_view k before).step (plain_view k before).state f shown_again n
 
       -- the tag holds what it held before the command or after it
-      either_store : (n : ℕ) → heard ≡ n → ((plain_view k behind).state.store ≡ (plain_view k before).state.store) ⊎ ((plain_view k behind).state.store ≡ ((plain_view k before).step (plain_view k before).state f).after.store)
+      either_store : (n : ℕ) → heard ≡ n → ((plain_view k behind).state.store ≡ (plain_view k before).state.store)
+          ⊎ ((plain_view k behind).state.store ≡ ((plain_view k before).step (plain_view k before).state f).after.store)
       either_store zero e = inl (ap (λ s. s.store) (shown_state ∙ ap (λ n. after_all (plain_view k before).step (plain_view k before).state (times f n)) e))
       either_store (suc n) e = inr (ap (λ s. s.store) (after_heard n e))
 
@@ -187,9 +190,11 @@ module _ {L : Type 0} (k : Ghosts L) where
       all_between : between k before behind ≡ w.events
       all_between = ap (drop (length old.trace)) w.trace ∙ drop-append_seam old.trace w.events
 
-      shown_images : Follows (plain_view k before).state.store (stores_after k place (world old) (between k before behind)) (passed (plain_view k before).step (plain_view k before).state (times f heard))
+      shown_images : Follows (plain_view k before).state.store (stores_after k place (world old) (between k before behind))
+          (passed (plain_view k before).step (plain_view k before).state (times f heard))
       shown_images =
-          let P : List Event → Type 0 = λ es. Follows (plain_view k before).state.store (stores_after k place (world old) es) (passed (plain_view k before).step (plain_view k before).state (times f heard)) in
+          let P : List Event → Type 0 = λ es. Follows (plain_view k before).state.store (stores_after k place (world old) es)
+          (passed (plain_view k before).step (plain_view k before).state (times f heard)) in
           let Q : List ℕ → Type 0 = λ s. Follows s (stores_after k place (world old) w.events) (passed (plain_view k before).step (plain_state s) (times f heard)) in
           let R : (TagState → Signal → TagStep) → Type 0 = λ g. Follows (k.store t.tag) (stores_after k place (world old) w.events) (passed g (plain_state (k.store t.tag)) (times f heard)) in
           subst P (sym all_between) (subst Q (sym (was k.store [])) (subst R (sym (was k.commands _)) w.images))

@@ -30,13 +30,15 @@ module _ {L : Type 0} (m : Machine L) where
       by_hearing false = refl
 
   -- a quiet turn leads from one moment of the air to the next
-  pub quiet_turns_to : {A : Type 0} (old new : Air L) (f : Signal) (far far' : A) (heard : Option Heard) → QuietTurn m old f far heard new far' → TurnsTo (quiet_air m) (moment old) (moment new) f heard
+  pub quiet_turns_to : {A : Type 0} (old new : Air L) (f : Signal) (far far' : A) (heard : Option Heard) → QuietTurn m old f far heard new far'
+      → TurnsTo (quiet_air m) (moment old) (moment new) f heard
   quiet_turns_to old new f far far' heard t =
       let es : List Event = turn_events (quiet_air m) (world old) f (first_fate old.fates) (first_fate (later_fates old.fates)) in
       let M : World L → List Fate → List Event → Moment (World L) = λ w q xs. record { world = w; queue = q; trace = xs } in
       record {
         lit = t.lit;
-        moment = ap (λ w. M w new.fates new.trace) t.after ∙ ap (λ q. M (replay (quiet_air m) (world old) es) q new.trace) t.fates ∙ ap (M (replay (quiet_air m) (world old) es) (queue_after old.fates es)) t.trace;
+        moment = ap (λ w. M w new.fates new.trace) t.after ∙ ap (λ q. M (replay (quiet_air m) (world old) es) q new.trace) t.fates
+            ∙ ap (M (replay (quiet_air m) (world old) es) (queue_after old.fates es)) t.trace;
         heard = t.told;
       }
 
@@ -65,7 +67,8 @@ module _ {L : Type 0} (m : Machine L) where
         let did : (mid ≡ far) × (step.reply ≡ None) = subst P q step.far in
         (did.0, step.says ∙ ap (answered_by m l f) did.1, step.left ∙ ap (stepped_by m l f) did.1)
 
-    hear_quiet : (f : Signal) (ls : List L) (far : A) (said : List Signal) (ls' : List L) (far' : A) → EachQuiet m f ls → HearAll m restarts steps f ls far said ls' far' → HeardQuietly f ls far said ls' far'
+    hear_quiet : (f : Signal) (ls : List L) (far : A) (said : List Signal) (ls' : List L) (far' : A) → EachQuiet m f ls → HearAll m restarts steps f ls far said ls' far'
+        → HeardQuietly f ls far said ls' far'
     hear_quiet f [] far said ls' far' q h = record { says = h.0; left = h.1; same = h.2 }
     hear_quiet f (l ∷ ls) far said ls' far' q h =
         let one : (h.3 ≡ far) × (h.0 ≡ answered_by m l f None) × (h.2 ≡ stepped_by m l f None) = hear_alone f l far h.0 h.2 h.3 q.0 h.5 in
@@ -92,7 +95,8 @@ module _ {L : Type 0} (m : Machine L) where
         let mid : Air L = after_event old (Request f Pass) (later_fates old.fates) w in
         let reached : B true p.listeners ≡ mid = ap (λ v. B v p.listeners) (sym lit) ∙ ap (B old.lit) h.left in
         let left : new ≡ brought m mid j y =
-        p.left ∙ ap (λ a. brought m a (joint p.answers) (first_fate (later_fates old.fates))) reached ∙ ap (λ x. brought m mid x (first_fate (later_fates old.fates))) joins ∙ ap (brought m mid j) (sym e) in (
+        p.left ∙ ap (λ a. brought m a (joint p.answers) (first_fate (later_fates old.fates))) reached ∙ ap (λ x. brought m mid x (first_fate (later_fates old.fates))) joins
+        ∙ ap (brought m mid j) (sym e) in (
           ap world left ∙ brought_world mid j y,
           ap (λ a. a.fates) left ∙ brought_fates mid j y,
           ap (λ a. a.trace) left ∙ brought_appends m mid j y ∙ append_assoc old.trace (Request f Pass ∷ []) (joint_events j y),
@@ -130,7 +134,8 @@ module _ {L : Type 0} (m : Machine L) where
       quiet_goes_on f (l ∷ ls) far ls' far' q (l', later, e, inr on) = quiet_goes_on f ls on.1 later far' q.1 on.3
 
       -- a far end that never stops breaks no turn off
-      pub endless_goes_on : ((a : A) (payload : List ℕ) (b : A) → stops a payload b → ⊥) → (f : Signal) (ls : List L) (far : A) (ls' : List L) (far' : A) → HearSome m restarts steps stops is_stuck f ls far ls' far' → ⊥
+      pub endless_goes_on : ((a : A) (payload : List ℕ) (b : A) → stops a payload b → ⊥) → (f : Signal) (ls : List L) (far : A) (ls' : List L) (far' : A)
+          → HearSome m restarts steps stops is_stuck f ls far ls' far' → ⊥
       endless_goes_on never f [] far ls' far' h = h
       endless_goes_on never f (l ∷ ls) far ls' far' (l', later, e, inl here) = let s = here.0 in never far s.payload far' s.far
       endless_goes_on never f (l ∷ ls) far ls' far' (l', later, e, inr on) = endless_goes_on never f ls on.1 later far' on.3

@@ -218,7 +218,8 @@ module _ {L A : Type 0} (m : Machine L) (restarts : A → List ℕ → A → Typ
 
   -- memory was wanting: nothing more happened, or the far end stopped
   pub on_wanting : {R : Type 0} (dark wanting : R) (stops : A → List ℕ → A → Type 0) (is_stuck : A → Bool) → next ns ≡ Asks f
-      → Transmits m restarts steps stops is_stuck mid f half (Err air.Memory) new after → LeavesOff m restarts steps next stops is_stuck ns mid half new after × TellsWhy dark wanting old.lit ns wanting
+      → Transmits m restarts steps stops is_stuck mid f half (Err air.Memory) new after → LeavesOff m restarts steps next stops is_stuck ns mid half new after
+      × TellsWhy dark wanting old.lit ns wanting
   on_wanting dark wanting stops is_stuck due (lit, inl same) = (inl same, wanting_lit dark wanting old.lit ns (sym o.lit ∙ lit))
   on_wanting dark wanting stops is_stuck due (lit, inr s) = (inr (f, due, s), wanting_lit dark wanting old.lit ns (sym o.lit ∙ lit))
 

@@ -32,7 +32,8 @@ brought_appends m a (Clashing g) y = refl
 abbrev pub passed : {L : Type 0} → Air L → Signal → List L → Air L
 passed old f ls = after_event old (Request f Pass) (later_fates old.fates) (record { lit = true; listeners = ls })
 
-module _ {L A : Type 0} (m : Machine L) (restarts : A → List ℕ → A → Type 0) (steps : A → List ℕ → List ℕ → A → Type 0) (stops : A → List ℕ → A → Type 0) (is_stuck : A → Bool) (old : Air L) (f : Signal) (far : A) where
+module _ {L A : Type 0} (m : Machine L) (restarts : A → List ℕ → A → Type 0) (steps : A → List ℕ → List ℕ → A → Type 0) (stops : A → List ℕ → A → Type 0) (is_stuck : A → Bool) (old : Air L)
+    (f : Signal) (far : A) where
   turn_passes : (new : Air L) (far' : A) (answers : List Signal) (ls : List L) (j : Joint) (y : Fate) (heard : Option Heard)
       → old.lit ≡ true → first_fate old.fates ≡ Pass → HearAll m restarts steps f old.listeners far answers ls far' → j ≡ joint answers → y ≡ first_fate (later_fates old.fates)
       → heard ≡ heard_by Pass (joint_back j y) → new ≡ brought m (passed old f ls) j y → TurnIs m restarts steps old f far heard new far'
@@ -47,14 +48,16 @@ module _ {L A : Type 0} (m : Machine L) (restarts : A → List ℕ → A → Typ
       } in
       record { lit = lit; by = subst P (sym pass) by }
 
-  hears : (begin : List L) (far' : A) (answers : List Signal) (ls : List L) → begin ≡ old.listeners → HearAll m restarts steps f begin far answers ls far' → HearAll m restarts steps f old.listeners far answers ls far'
+  hears : (begin : List L) (far' : A) (answers : List Signal) (ls : List L) → begin ≡ old.listeners → HearAll m restarts steps f begin far answers ls far'
+      → HearAll m restarts steps f old.listeners far answers ls far'
   hears begin far' answers ls from all = let P : List L → Type 0 = λ t. HearAll m restarts steps f t far answers ls far' in subst P from all
 
   -- silence
   pub transmits_silence : (begin : List L) (new : Air L) (far' : A) (answers : List Signal) (ls : List L)
       → old.lit ≡ true → first_fate old.fates ≡ Pass → begin ≡ old.listeners → HearAll m restarts steps f begin far answers ls far' → Nothing ≡ joint answers
       → new ≡ passed old f ls → Transmits m restarts steps stops is_stuck old f far (Ok Silent) new far'
-  transmits_silence begin new far' answers ls lit pass from all joins left = turn_passes new far' answers ls Nothing (first_fate (later_fates old.fates)) (Some Silent) lit pass (hears begin far' answers ls from all) joins refl refl left
+  transmits_silence begin new far' answers ls lit pass from all joins left = turn_passes new far' answers ls Nothing (first_fate (later_fates old.fates)) (Some Silent) lit pass
+      (hears begin far' answers ls from all) joins refl refl left
 
   settles : (new : Air L) (far' : A) (r : Result Heard AirFault) (h : Heard) (y : Fate) (told : Fate → Option Heard)
       → told Pass ≡ Some h → told Damage ≡ Some Damaged → told Lose ≡ Some Silent → told Break ≡ None
@@ -75,23 +78,29 @@ module _ {L A : Type 0} (m : Machine L) (restarts : A → List ℕ → A → Typ
       → r ≡ settled (Whole g) y → world new ≡ came_back m (record { lit = true; listeners = ls }) y → new.fates ≡ later_fates (later_fates old.fates)
       → new.trace ≡ (old.trace ++ Request f Pass ∷ []) ++ Answer g y ∷ [] → Transmits m restarts steps stops is_stuck old f far r new far'
   transmits_answer begin new far' answers ls r g y lit pass from all joins fate is w q t =
-      let left : new ≡ brought m (passed old f ls) (Single g) y = air_of new (came_back m (record { lit = true; listeners = ls }) y) (later_fates (later_fates old.fates)) ((old.trace ++ Request f Pass ∷ []) ++ Answer g y ∷ []) w q t in
-      settles new far' r (Whole g) y (λ z. heard_at z (Whole g)) refl refl refl refl is (λ heard e. turn_passes new far' answers ls (Single g) y heard lit pass (hears begin far' answers ls from all) joins fate e left)
+      let left : new ≡ brought m (passed old f ls) (Single g) y = air_of new (came_back m (record { lit = true; listeners = ls }) y) (later_fates (later_fates old.fates))
+      ((old.trace ++ Request f Pass ∷ []) ++ Answer g y ∷ []) w q t in
+      settles new far' r (Whole g) y (λ z. heard_at z (Whole g)) refl refl refl refl is (λ heard e. turn_passes new far' answers ls (Single g) y heard lit pass (hears begin far' answers ls from all)
+      joins fate e left)
 
   -- different ones
   pub transmits_clash : (begin : List L) (new : Air L) (far' : A) (answers : List Signal) (ls : List L) (r : Result Heard AirFault) (g : Signal) (y : Fate)
-      → old.lit ≡ true → first_fate old.fates ≡ Pass → begin ≡ old.listeners → HearAll m restarts steps f begin far answers ls far' → Clashing g ≡ joint answers → y ≡ first_fate (later_fates old.fates)
+      → old.lit ≡ true → first_fate old.fates ≡ Pass → begin ≡ old.listeners → HearAll m restarts steps f begin far answers ls far' → Clashing g ≡ joint answers
+      → y ≡ first_fate (later_fates old.fates)
       → r ≡ settled (Collided g) y → world new ≡ came_back m (record { lit = true; listeners = ls }) y → new.fates ≡ later_fates (later_fates old.fates)
       → new.trace ≡ (old.trace ++ Request f Pass ∷ []) ++ Clash g y ∷ [] → Transmits m restarts steps stops is_stuck old f far r new far'
   transmits_clash begin new far' answers ls r g y lit pass from all joins fate is w q t =
-      let left : new ≡ brought m (passed old f ls) (Clashing g) y = air_of new (came_back m (record { lit = true; listeners = ls }) y) (later_fates (later_fates old.fates)) ((old.trace ++ Request f Pass ∷ []) ++ Clash g y ∷ []) w q t in
-      settles new far' r (Collided g) y (λ z. heard_at z (Collided g)) refl refl refl refl is (λ heard e. turn_passes new far' answers ls (Clashing g) y heard lit pass (hears begin far' answers ls from all) joins fate e left)
+      let left : new ≡ brought m (passed old f ls) (Clashing g) y = air_of new (came_back m (record { lit = true; listeners = ls }) y) (later_fates (later_fates old.fates))
+      ((old.trace ++ Request f Pass ∷ []) ++ Clash g y ∷ []) w q t in
+      settles new far' r (Collided g) y (λ z. heard_at z (Collided g)) refl refl refl refl is
+      (λ heard e. turn_passes new far' answers ls (Clashing g) y heard lit pass (hears begin far' answers ls from all) joins fate e left)
 
   -- a request at which the field is lost
   pub transmits_break : (new : Air L) (r : Result Heard AirFault) → old.lit ≡ true → first_fate old.fates ≡ Break → r ≡ settled Silent Break → world new ≡ came_back m (world old) Break
       → new.fates ≡ later_fates old.fates → new.trace ≡ old.trace ++ Request f Break ∷ [] → Transmits m restarts steps stops is_stuck old f far r new far
   transmits_break new r lit fate is w q t =
-      let left : new ≡ after_event old (Request f Break) (later_fates old.fates) (came_back m (world old) Break) = air_of new (came_back m (world old) Break) (later_fates old.fates) (old.trace ++ Request f Break ∷ []) w q t in
+      let left : new ≡ after_event old (Request f Break) (later_fates old.fates) (came_back m (world old) Break) =
+      air_of new (came_back m (world old) Break) (later_fates old.fates) (old.trace ++ Request f Break ∷ []) w q t in
       let P : Fate → Type 0 = λ x. TurnBy m restarts steps x old f far None new far in
       let by : TurnBy m restarts steps Break old f far None new far = record { back = refl; left = left; same = refl } in
       let R : Result Heard AirFault → Type 0 = λ z. Transmits m restarts steps stops is_stuck old f far z new far in

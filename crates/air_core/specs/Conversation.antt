@@ -46,7 +46,8 @@ pub data Next : Type 0 where
 abbrev pub EachDue : (List Note → Next) → List Event → List Event → Type 0
 EachDue next before [] = Unit {0}
 EachDue next before (Reset ∷ es) = (next (receptions before) ≡ LightUp) × EachDue next (before ++ Reset ∷ []) es
-EachDue next before (Request f x ∷ es) = (next (receptions before) ≡ Asks f) × EachDue next (before ++ Request f x ∷ []) es
+EachDue next before (Request f x ∷ es) = (next (receptions before) ≡ Asks f)
+    × EachDue next (before ++ Request f x ∷ []) es
 EachDue next before (Answer g x ∷ es) = EachDue next (before ++ Answer g x ∷ []) es
 EachDue next before (Clash g x ∷ es) = EachDue next (before ++ Clash g x ∷ []) es
 
@@ -131,7 +132,8 @@ abbrev pub with_events : {W : Type 0} → AirModel W → Moment W → List Event
 with_events m a es = record { world = replay m a.world es; queue = queue_after a.queue es; trace = a.trace ++ es }
 
 -- From one moment to another, turns were made whose requests were due; this is what the reader knows of them.
-pub record Going {W : Type 0} (m : AirModel W) (next : List Note → Next) (old new : Moment W) (notes : List Note) : Type 0 where
+pub record Going {W : Type 0} (m : AirModel W) (next : List Note → Next) (old new : Moment W) (notes : List Note)
+    : Type 0 where
   pub events : List Event
   pub moment : new ≡ with_events m old events
   pub turns : AreTurns m old.world events
@@ -144,7 +146,8 @@ pub record Going {W : Type 0} (m : AirModel W) (next : List Note → Next) (old 
 -- it, none where the field was lost.
 pub record TurnsTo {W : Type 0} (m : AirModel W) (old new : Moment W) (f : Signal) (h : Option Heard) : Type 0 where
   pub lit : m.lit old.world ≡ true
-  pub moment : new ≡ with_events m old (turn_events m old.world f (first_fate old.queue) (first_fate (later_fates old.queue)))
+  pub moment : new
+      ≡ with_events m old (turn_events m old.world f (first_fate old.queue) (first_fate (later_fates old.queue)))
   pub heard : h ≡ turn_heard m old.world f (first_fate old.queue) (first_fate (later_fates old.queue))
 
 -- something is due

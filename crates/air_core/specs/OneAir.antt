@@ -13,7 +13,8 @@ use Rattle.air_core.specs.Conversation.{AirModel, replay, turn_events, turn_hear
 
 -- What was heard of a turn is what its events tell.
 abbrev pub TellsHeard : {W : Type 0} → AirModel W → Type 0
-TellsHeard {W} m = (w : W) (f : Signal) (x y : Fate) → map heard (turns (turn_events m w f x y)) ≡ turn_heard m w f x y ∷ []
+TellsHeard {W} m = (w : W) (f : Signal) (x y : Fate) → map heard (turns (turn_events m w f x y))
+    ≡ turn_heard m w f x y ∷ []
 
 module _ {I T : Type 0} (L : StopAndWait I T Signal) (reply : List ℕ) where
   -- an answering end as a listener of this technology, whose owner gives this reply
@@ -53,10 +54,11 @@ module _ {I T : Type 0} (L : StopAndWait I T Signal) (reply : List ℕ) where
 
   -- a request and its answer, as transmissions one by one
   abbrev pub both_by : exchanges.World I T Signal → Signal → Fate → Fate → exchanges.World I T Signal
-  both_by w f x y = back_by (transmitted L (λ p. reply) w (Requests f) x) (transmitted L (λ p. reply) w (Requests f) x).stage y
+  both_by w f x y = back_by (transmitted L (λ p. reply) w (Requests f) x)
+      (transmitted L (λ p. reply) w (Requests f) x).stage y
 
-  -- Its transmissions one by one come to the same turn: the same frames arrive, the answering end is left the same, and the
-  -- asking end goes on by what was heard.
+  -- Its transmissions one by one come to the same turn: the same frames arrive, the answering end is left the same, and
+  -- the asking end goes on by what was heard.
   pub record IsBothTransmitted (w : exchanges.World I T Signal) (f : Signal) (x y : Fate) : Type 0 where
     pub answering : (both_by w f x y).answering ≡ (turned L reply w.answering f x y).answering
     pub arrives : (both_by w f x y).arrived ≡ w.arrived ++ arrived (turned L reply w.answering f x y).events
@@ -68,4 +70,5 @@ abbrev pub TurnsOnAir : {I T : Type 0} → StopAndWait I T Signal → Type 0
 TurnsOnAir {I} {T} L = (reply : List ℕ) (t : T) (f : Signal) (x y : Fate) → IsAirTurn L reply t f x y
 
 abbrev pub SendsTurns : {I T : Type 0} → StopAndWait I T Signal → Type 0
-SendsTurns {I} {T} L = (reply : List ℕ) (w : exchanges.World I T Signal) (f : Signal) (x y : Fate) → IsBothTransmitted L reply w f x y
+SendsTurns {I} {T} L = (reply : List ℕ) (w : exchanges.World I T Signal) (f : Signal) (x y : Fate)
+    → IsBothTransmitted L reply w f x y

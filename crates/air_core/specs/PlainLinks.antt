@@ -1,6 +1,7 @@
 -- What contracts see of a link that sends each command as it is, over a field that it borrows. What the tag obeyed and
 -- what was answered is read off the field's trace.
-use Rattle.std.specs.Prelude.{◌≡◌, ◌⊎◌, ℕ, zero, suc, ◌+◌, ◌*◌, ◌≤◌, List, [], ◌∷◌, ◌++◌, length, drop, map, Bool, true, not, Option, Some, None, Result, IfOk, IfErr, false}
+use Rattle.std.specs.Prelude.{◌≡◌, ◌⊎◌, ℕ, zero, suc, ◌+◌, ◌*◌, ◌≤◌, List, [], ◌∷◌, ◌++◌, length, drop, map, Bool, true}
+use Rattle.std.specs.Prelude.{not, Option, Some, None, Result, IfOk, IfErr, false}
 use Rattle.std.specs.List.{filter}
 use Rattle.nfc_base.specs.declared.frame.Tech.{Tech}
 use Rattle.nfc_base.specs.declared.frame.Tech.TheVariants.{A}
@@ -47,7 +48,8 @@ at_place f d (l ∷ ls) (suc n) = at_place f d ls n
 
 -- the tag at a place may be asked this
 abbrev pub MayAskAt : {L : Type 0} → Ghosts L → Air L → ℕ → Signal → Type 0
-MayAskAt k air place f = MayAsk (plain_kind (at_place k.machine.tech A air.listeners place)) (at_place k.identifier [] air.listeners place) f
+MayAskAt k air place f = MayAsk (plain_kind (at_place k.machine.tech A air.listeners place))
+    (at_place k.identifier [] air.listeners place) f
 
 -- Stores that follow others: each is the one before it or the next of the others, and all of these come in their order.
 abbrev pub Follows : List ℕ → List (List ℕ) → List (List ℕ) → Type 0
@@ -59,7 +61,8 @@ Follows now (x ∷ xs) (y ∷ ys) = ((x ≡ now) × Follows now xs (y ∷ ys)) �
 -- the store of the listener at a place after each of some events
 abbrev pub stores_after : {L : Type 0} → Ghosts L → ℕ → World L → List Event → List (List ℕ)
 stores_after k place w [] = []
-stores_after k place w (e ∷ es) = at_place k.store [] (happens k.machine w e).listeners place ∷ stores_after k place (happens k.machine w e) es
+stores_after k place w (e ∷ es) = at_place k.store [] (happens k.machine w e).listeners place
+    ∷ stores_after k place (happens k.machine w e) es
 
 -- A link: its field, the place of its tag, how long the trace was when the link was made, the last command that was
 -- asked while it wasn't over, and by which fault it is over.
@@ -79,12 +82,13 @@ unanswered None last = []
 unanswered (Some e) None = []
 unanswered (Some e) (Some c) = c ∷ []
 
--- Where the waits stand of a link that is over, or isn't: all commands were answered, or the last one ended the link. After
--- a lost field it is dark; it was lost in a turn, or was dark before the last command was sent. Six bad receptions and want
--- of memory are told in the light only.
+-- Where the waits stand of a link that is over, or isn't: all commands were answered, or the last one ended the link.
+-- After a lost field it is dark; it was lost in a turn, or was dark before the last command was sent. Six bad
+-- receptions and want of memory are told in the light only.
 abbrev pub StandsAt : Option AskFault → Bool → Standing → Type 0
 StandsAt None lit s = s ≡ Asking 0 []
-StandsAt (Some FieldLost) lit s = (lit ≡ false) × (c : Signal) × ((s ≡ Broken FieldLost (c ∷ [])) ⊎ (s ≡ Asking 0 (c ∷ [])))
+StandsAt (Some FieldLost) lit s = (lit ≡ false) × (c : Signal)
+    × ((s ≡ Broken FieldLost (c ∷ [])) ⊎ (s ≡ Asking 0 (c ∷ [])))
 StandsAt (Some SixBad) lit s = (lit ≡ true) × (c : Signal) × (s ≡ Broken SixBad (c ∷ []))
 StandsAt (Some Memory) lit s = (lit ≡ true) × (c : Signal) × (bad : ℕ) × (s ≡ Asking bad (c ∷ []))
 StandsAt (Some Protocol) lit s = ⊥
@@ -133,7 +137,8 @@ module _ {L : Type 0} (k : Ghosts L) where
     pub told : asked_on b ≡ asked_on a ++ commands
     pub most : length b.air.trace ≤ length a.air.trace + 12 * length commands
 
-  -- The tag obeyed commands. The stores that it passed by its steps are those that it had after the events, in their order.
+  -- The tag obeyed commands. The stores that it passed by its steps are those that it had after the events, in their
+  -- order.
   pub record PlainObeyed (a b : PlainSeen L) : Type 0 where
     pub commands : List Signal
     pub leads : Leads (plain_view a) (plain_view b) commands
@@ -150,5 +155,6 @@ module _ {L : Type 0} (k : Ghosts L) where
   -- An `ask` that ends so is that of one command, at most: six turns, of a request and an answer each.
   abbrev pub FewSent : PlainSeen L → PlainSeen L → Signal → Result Signal AskFault → Type 0
   FewSent a b c result =
-      PlainMoves a b → IfOk result (IsAnswer (plain_view a) (plain_view b) c) → IfErr result (IsFault (plain_view a) (plain_view b) c)
+      PlainMoves a b → IfOk result (IsAnswer (plain_view a) (plain_view b) c)
+      → IfErr result (IsFault (plain_view a) (plain_view b) c)
       → length b.air.trace ≤ length a.air.trace + 12

@@ -1,5 +1,5 @@
--- Tags that take commands as they are sent, alone in a field (NFC Forum Type 2, Type 3 and Type 5 Tag; who hears what is this
--- project's own).
+-- Tags that take commands as they are sent, alone in a field (NFC Forum Type 2, Type 3 and Type 5 Tag; who hears what
+-- is this project's own).
 use Rattle.std.specs.Prelude.{◌≡◌, ℕ, zero, suc, List, [], ◌∷◌, ◌++◌, length, Bool, true, false, Some, None}
 use Rattle.std.specs.List.{AllByRecursion}
 use Rattle.nfc_base.specs.declared.frame.Tech.{Tech}
@@ -46,15 +46,17 @@ module _ {L : Type 0} (k : Ghosts L) where
     pub store : k.store (k.machine.after l f None) ≡ k.store l
     pub rests : k.is_selected (k.machine.after l f None) ≡ false
 
-  -- A tag of this kind and identifier that takes commands as they are sent: something holds of it, which each frame keeps
-  -- that such a tag may be asked; where it holds, the tag takes these frames while it is selected, and passes them over
-  -- while it isn't.
+  -- A tag of this kind and identifier that takes commands as they are sent: something holds of it, which each frame
+  -- keeps that such a tag may be asked; where it holds, the tag takes these frames while it is selected, and passes
+  -- them over while it isn't.
   pub record IsPlainTag (kind : TagKind) (identifier : List ℕ) (l : L) : Type 0 where
     pub holds : L → Bool
     pub now : holds l ≡ true
-    pub kept : (m : L) (f : Signal) → MayAsk kind identifier f → holds m ≡ true → holds (k.machine.after m f None) ≡ true
+    pub kept : (m : L) (f : Signal) → MayAsk kind identifier f → holds m ≡ true
+        → holds (k.machine.after m f None) ≡ true
     pub takes : (m : L) (f : Signal) → MayAsk kind identifier f → holds m ≡ true → k.is_selected m ≡ true → Takes m f
-    pub passes : (m : L) (f : Signal) → MayAsk kind identifier f → holds m ≡ true → k.is_selected m ≡ false → PassesOver m f
+    pub passes : (m : L) (f : Signal) → MayAsk kind identifier f → holds m ≡ true → k.is_selected m ≡ false
+        → PassesOver m f
 
   -- Another listener of the field: no NFC-A device that is ready or selected, and of another identifier.
   pub record IsAside (identifier : List ℕ) (l : L) : Type 0 where

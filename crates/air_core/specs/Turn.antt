@@ -41,16 +41,19 @@ brought m a Nothing y = a
 brought m a (Single g) y = after_event a (Answer g y) (later_fates a.fates) (came_back m (world a) y)
 brought m a (Clashing g) y = after_event a (Clash g y) (later_fates a.fates) (came_back m (world a) y)
 
-module _ {L A : Type 0} (m : Machine L) (restarts : A → List ℕ → A → Type 0) (steps : A → List ℕ → List ℕ → A → Type 0) where
+module _ {L A : Type 0} (m : Machine L) (restarts : A → List ℕ → A → Type 0)
+    (steps : A → List ℕ → List ℕ → A → Type 0) where
   -- a listener in the field meets a frame
   abbrev pub Meets : Signal → L → A → Option Signal → L → A → Type 0
-  Meets f l far answer l' far' = Step restarts steps (hands_over m l f) (answered_by m l f) (stepped_by m l f) far answer l' far'
+  Meets f l far answer l' far' = Step restarts steps (hands_over m l f) (answered_by m l f) (stepped_by m l f) far
+      answer l' far'
 
   -- Each listener meets the frame, in order, and these are their answers.
   abbrev pub HearAll : Signal → List L → A → List Signal → List L → A → Type 0
   HearAll f [] far answers ls' far' = (answers ≡ []) × (ls' ≡ []) × (far' ≡ far)
   HearAll f (l ∷ ls) far answers ls' far' =
-      (answer : Option Signal) × (others : List Signal) × (l' : L) × (mid : A) × (later : List L) × Meets f l far answer l' mid
+      (answer : Option Signal) × (others : List Signal) × (l' : L) × (mid : A) × (later : List L)
+      × Meets f l far answer l' mid
       × HearAll f ls mid others later far' × (answers ≡ cons_option answer others) × (ls' ≡ l' ∷ later)
 
   -- The request passed. What comes back of it has the fate behind its own.
@@ -59,10 +62,13 @@ module _ {L A : Type 0} (m : Machine L) (restarts : A → List ℕ → A → Typ
     pub listeners : List L
     pub all : HearAll f old.listeners far answers listeners far'
     pub back : heard ≡ heard_by Pass (joint_back (joint answers) (first_fate (later_fates old.fates)))
-    pub left : new ≡ brought m (after_event old (Request f Pass) (later_fates old.fates) (record { lit = true; listeners = listeners })) (joint answers) (first_fate (later_fates old.fates))
+    pub left : new
+        ≡ brought m (after_event old (Request f Pass) (later_fates old.fates)
+        (record { lit = true; listeners = listeners })) (joint answers) (first_fate (later_fates old.fates))
 
   -- The request didn't pass, and nobody heard it.
-  pub record Fails (x : Fate) (old : Air L) (f : Signal) (far : A) (heard : Option Heard) (new : Air L) (far' : A) : Type 0 where
+  pub record Fails (x : Fate) (old : Air L) (f : Signal) (far : A) (heard : Option Heard) (new : Air L) (far' : A)
+      : Type 0 where
     pub back : heard ≡ heard_by x backs.Nothing
     pub left : new ≡ after_event old (Request f x) (later_fates old.fates) (requested m (world old) f x)
     pub same : far' ≡ far
@@ -93,11 +99,14 @@ module _ {L A : Type 0} (m : Machine L) (restarts : A → List ℕ → A → Typ
       pub fate : first_fate old.fates ≡ Pass
       pub listeners : List L
       pub some : HearSome f old.listeners far listeners far'
-      pub left : new ≡ after_event old (Request f Pass) (later_fates old.fates) (record { lit = true; listeners = listeners })
+      pub left : new ≡ after_event old (Request f Pass) (later_fates old.fates)
+          (record { lit = true; listeners = listeners })
 
     -- What a turn answers. In the dark nothing happens; want of memory comes before anything happens, or breaks the
     -- turn off.
     abbrev pub Transmits : Air L → Signal → A → Result Heard AirFault → Air L → A → Type 0
     Transmits old f far (Ok h) new far' = TurnIs old f far (Some h) new far'
-    Transmits old f far (Err FieldLost) new far' = ((old.lit ≡ false) × (new ≡ old) × (far' ≡ far)) ⊎ TurnIs old f far None new far'
-    Transmits old f far (Err Memory) new far' = (old.lit ≡ true) × (((new ≡ old) × (far' ≡ far)) ⊎ Stops old f far new far')
+    Transmits old f far (Err FieldLost) new far' = ((old.lit ≡ false) × (new ≡ old) × (far' ≡ far))
+        ⊎ TurnIs old f far None new far'
+    Transmits old f far (Err Memory) new far' = (old.lit ≡ true)
+        × (((new ≡ old) × (far' ≡ far)) ⊎ Stops old f far new far')

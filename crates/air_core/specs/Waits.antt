@@ -20,7 +20,8 @@ stand bad [] (n ∷ ns) = Astray
 stand bad (c ∷ cs) (Lit ∷ ns) = Astray
 stand bad (c ∷ cs) (Lost ∷ ns) = Broken FieldLost (c ∷ cs)
 stand bad (c ∷ cs) (Got h ∷ ns) =
-    if is_bad_in_wait h then (if nat_lt bad 5 then stand (suc bad) (c ∷ cs) ns else Broken SixBad (c ∷ cs)) else stand 0 cs ns
+    if is_bad_in_wait h then (if nat_lt bad 5 then stand (suc bad) (c ∷ cs) ns else Broken SixBad (c ∷ cs))
+    else stand 0 cs ns
 
 -- the request that is due there
 abbrev pub due_at : Standing → Next

@@ -1,6 +1,7 @@
 //! The field: light, listeners, fates and the trace.
 
-ghost use Rattle.std.specs.Prelude.{◌≡◌, ◌++◌, ◌∷◌, [], ◌<◌, length, map, slice_index_or, remove, true, false, IfOk, OnOk, OnErr, Err};
+ghost use Rattle.std.specs.Prelude.{◌≡◌, ◌++◌, ◌∷◌, [], ◌<◌, length, map, slice_index_or, remove, true, false, IfOk};
+ghost use Rattle.std.specs.Prelude.{OnOk, OnErr, Err};
 ghost use Rattle.std.specs.Borrow.{sem};
 ghost use Rattle.nfc_base.specs.declared.event.Event.TheVariants.{Reset};
 ghost use Rattle.nfc_base.specs.declared.event.Fate.TheVariants.{Pass};

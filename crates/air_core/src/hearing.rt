@@ -1,6 +1,7 @@
 //! A frame that reaches the listeners.
 
-ghost use Rattle.std.specs.Prelude.{◌≡◌, ◌⊎◌, ℕ, ◌<◌, ◌≤◌, List, [], length, map, Option, Some, None, OnOk, OnErr, IfOk};
+ghost use Rattle.std.specs.Prelude.{◌≡◌, ◌⊎◌, ℕ, ◌<◌, ◌≤◌, List, [], length, map, Option, Some, None, OnOk, OnErr};
+ghost use Rattle.std.specs.Prelude.{IfOk};
 ghost use Rattle.nfc_base.specs.Signal.{Signal};
 ghost use Rattle.air_core.specs.World.{Machine, hands_over, stepped_by};
 ghost use Rattle.air_core.specs.Listening.{Stop, said_at};
@@ -35,8 +36,9 @@ fn meet<L: Listener, A: Answerer>(
     }
 }
 
-/// Each listener meets the frame, in order, and their answers are joined. It ends where the far end has stopped. An answer
-/// is written where it is joined: a turn costs what the answers to it cost, and nothing for those that are silent.
+/// Each listener meets the frame, in order, and their answers are joined. It ends where the far end has stopped. An
+/// answer is written where it is joined: a turn costs what the answers to it cost, and nothing for those that are
+/// silent.
 pub fn hear_all<L: Listener, A: Answerer>(
     alloc: Global,
     listeners: &mut [L],

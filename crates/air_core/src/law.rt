@@ -11,7 +11,8 @@ ghost use Rattle.air_core.specs.PlainLinks.{PlainSeen, FewSent};
 use crate::listener::Listener;
 
 /// A turn is the same to a reader, to the listeners of a field and to a link that stops and waits: over any air what is
-/// heard is what the events tell, and the turns of such a link are those of the air in which its answering end is alone.
+/// heard is what the events tell, and the turns of such a link are those of the air in which its answering end is
+/// alone.
 #[tactic(auto, using(crate::proofs::OneAir::tells_heard, crate::proofs::OneAir::turns_on_air, crate::proofs::OneAir::sends_turns))]
 pub fn one_air<W, I, T>()
     ensures heard { (m : AirModel W) → TellsHeard m }

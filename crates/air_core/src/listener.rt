@@ -17,8 +17,8 @@ pub trait Listener {
     /// What it does.
     ghost machine: { Machine Self };
 
-    /// Its identifier: of an NFC-A device its bytes in order, of an NFC-V device its eight bytes, high byte first, of an
-    /// NFC-F device its eight bytes in order.
+    /// Its identifier: of an NFC-A device its bytes in order, of an NFC-V device its eight bytes, high byte first, of
+    /// an NFC-F device its eight bytes in order.
     ghost identifier: { Self → List ℕ };
 
     /// Its memory, in order; the empty list for a peer.
@@ -58,8 +58,8 @@ pub trait Listener {
             (Stop A.stops A.is_stuck (machine.handed self.old frame.now)
             (machine.after self.old frame.now) far.old self.new far.new) };
 
-    /// The same step, whose answer is put into a place of the caller's: `true` where there is one. The field calls it for
-    /// every listener at every request, and most are silent: so a frame is moved only where there is one.
+    /// The same step, whose answer is put into a place of the caller's: `true` where there is one. The field calls it
+    /// for every listener at every request, and most are silent: so a frame is moved only where there is one.
     fn hear_into<A: Answerer>(
         &mut self,
         alloc: Global,

@@ -11,8 +11,9 @@ use crate::listener::Listener;
 use nfc_base::{AskFault, Frame, Mute, TagLink};
 use std::alloc::Global;
 
-/// A link to one Type 2, Type 3 or Type 5 tag, which is selected and alone in the field. A command is sent again after each bad
-/// reception (NFC Forum Digital Protocol). The far end of its turns is mute, since such a tag asks nothing of one.
+/// A link to one Type 2, Type 3 or Type 5 tag, which is selected and alone in the field. A command is sent again after
+/// each bad reception (NFC Forum Digital Protocol). The far end of its turns is mute, since such a tag asks nothing of
+/// one.
 #[derive(Drop)]
 pub struct PlainLink<'a, L> {
     field: &'a mut Field<L>,

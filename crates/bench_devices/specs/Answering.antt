@@ -1,5 +1,5 @@
--- How selecting a device, a search and a read end, and the cause of each end. What tells of an end is the caller's: a read and a
--- search are told by their results, and a bench by its answers.
+-- How selecting a device, a search and a read end, and the cause of each end. What tells of an end is the caller's: a
+-- read and a search are told by their results, and a bench by its answers.
 use Rattle.std.specs.Prelude.{◌≡◌, ◌↔◌, ◌⊎◌, ◌<◌, ◌≤◌, List, [], ◌∷◌, Result, Ok, Err}
 use Rattle.std.specs.List.{AllByRecursion}
 use Rattle.nfc_base.specs.Signal.{Signal}
@@ -39,8 +39,8 @@ IsNamed (V id) d = (device_tech d ≡ techs.V) × (device_id d ≡ id)
 abbrev pub IsAbsent : DeviceId → List Device → Type 0
 IsAbsent id ds = AllByRecursion (λ d. IsNamed id d → ⊥) ds
 
--- Nothing was found of an identifier: no NFC-A, or no NFC-V device has it, or the last round missed its end; for NFC-V four tries
--- had noise.
+-- Nothing was found of an identifier: no NFC-A, or no NFC-V device has it, or the last round missed its end; for NFC-V
+-- four tries had noise.
 abbrev pub MissedBy : DeviceId → List Device → List Event → Type 0
 MissedBy (A id) ds es = IsAbsent (A id) ds ⊎ MissedRound es
 MissedBy (V id) ds es = IsAbsent (V id) ds ⊎ (tries ≤ noisy_tries (inventory_of id) es)
@@ -60,8 +60,8 @@ HasPollCause id ds (Err faults.Memory) es = ⊥
 HasPollCause id ds (Err faults.NotFound) es = MissedBy id ds es
 HasPollCause id ds (Err faults.BadAnswer) es = ⊥
 
--- What tells of a read once its tag is selected, by where its waits stand at the end: all that it asks was answered, and this
--- tells what the store holds; or this tells of the fault that ended a wait.
+-- What tells of a read once its tag is selected, by where its waits stand at the end: all that it asks was answered,
+-- and this tells what the store holds; or this tells of the fault that ended a wait.
 abbrev pub TellsStanding : {X : Type 0} → (X → Type 0) → (AskFault → X → Type 0) → Standing → X → Type 0
 TellsStanding Tells Fails (Asking bad []) x = Tells x
 TellsStanding Tells Fails (Asking bad (c ∷ cs)) x = ⊥
@@ -79,8 +79,10 @@ abbrev pub TellsCard : {X : Type 0} → (X → Type 0) → (AskFault → X → T
 TellsCard Tells Fails (Activates bad) x = ⊥
 TellsCard Tells Fails (Exchanges s) x = TellsExchange Tells Fails s x
 
--- what tells of a read of a tag that is seen to be of this kind, by what was heard since it was selected; of a peer nothing is asked
-abbrev pub TellsBy : {X : Type 0} → SeenKind → (X → Type 0) → (AskFault → X → Type 0) → List Signal → List Note → X → Type 0
+-- what tells of a read of a tag that is seen to be of this kind, by what was heard since it was selected; of a peer
+-- nothing is asked
+abbrev pub TellsBy : {X : Type 0} → SeenKind → (X → Type 0) → (AskFault → X → Type 0) → List Signal → List Note → X
+    → Type 0
 TellsBy seen.T2 Tells Fails asked ns x = TellsStanding Tells Fails (stand 0 asked ns) x
 TellsBy seen.T4 Tells Fails asked ns x = TellsCard Tells Fails (card_stands asked ns) x
 TellsBy seen.T5 Tells Fails asked ns x = TellsStanding Tells Fails (stand 0 asked ns) x
@@ -115,21 +117,27 @@ abbrev pub AreOthers : List Device → Vcrowd → List Event → Type 0
 AreOthers ds others es = (others ≡ others_of ds) ⊎ ((others ≡ Nobody) × (tries ≤ noisy_tries inventory_all es))
 
 -- how the inventory of a search ended, by what the search found
-abbrev pub InventoryEnds : {X : Type 0} → (Result Everybody PollFault → X → Type 0) → List Device → List Picked → Result Vcrowd PollFault → List Event → X → Type 0
-InventoryEnds Tells ds cards (Ok others) es x = AreOthers ds others es × Tells (Ok (record { cards = cards; others = others })) x
+abbrev pub InventoryEnds : {X : Type 0} → (Result Everybody PollFault → X → Type 0) → List Device → List Picked
+    → Result Vcrowd PollFault → List Event → X → Type 0
+InventoryEnds Tells ds cards (Ok others) es x = AreOthers ds others es
+    × Tells (Ok (record { cards = cards; others = others })) x
 InventoryEnds Tells ds cards (Err faults.Nobody) es x = ⊥
-InventoryEnds Tells ds cards (Err faults.Disturbed) es x = Tells (Err faults.Disturbed) x × (tries ≤ noisy_tries inventory_all es)
+InventoryEnds Tells ds cards (Err faults.Disturbed) es x =
+    Tells (Err faults.Disturbed) x × (tries ≤ noisy_tries inventory_all es)
 InventoryEnds Tells ds cards (Err faults.FieldLost) es x = Tells (Err faults.FieldLost) x
 InventoryEnds Tells ds cards (Err faults.Memory) es x = ⊥
 InventoryEnds Tells ds cards (Err faults.NotFound) es x = ⊥
 InventoryEnds Tells ds cards (Err faults.BadAnswer) es x = ⊥
 
--- An inventory follows where the search for NFC-A devices ended well: it found the first of the crowd, and all of it unless it
--- missed its end. It was disturbed only where each of four rounds had noise. What was heard behind it is the inventory's.
-abbrev pub FindEnds : {X : Type 0} → (Result Everybody PollFault → X → Type 0) → List Device → Result (List Picked) PollFault → List Note → List Event → X → Type 0
+-- An inventory follows where the search for NFC-A devices ended well: it found the first of the crowd, and all of it
+-- unless it missed its end. It was disturbed only where each of four rounds had noise. What was heard behind it is the
+-- inventory's.
+abbrev pub FindEnds : {X : Type 0} → (Result Everybody PollFault → X → Type 0) → List Device
+    → Result (List Picked) PollFault → List Note → List Event → X → Type 0
 FindEnds Tells ds (Ok cards) behind es x =
     IsPrefix cards (crowd_of ds) × ((cards ≡ crowd_of ds) ⊎ MissedRound es)
-    × (others : Result Vcrowd PollFault) × (follows inventory behind ≡ Told others []) × InventoryEnds Tells ds cards others es x
+    × (others : Result Vcrowd PollFault) × (follows inventory behind ≡ Told others [])
+    × InventoryEnds Tells ds cards others es x
 FindEnds Tells ds (Err faults.Nobody) behind es x = ⊥
 FindEnds Tells ds (Err faults.Disturbed) behind es x = Tells (Err faults.Disturbed) x × GaveUp es
 FindEnds Tells ds (Err faults.FieldLost) behind es x = Tells (Err faults.FieldLost) x
@@ -137,9 +145,10 @@ FindEnds Tells ds (Err faults.Memory) behind es x = ⊥
 FindEnds Tells ds (Err faults.NotFound) behind es x = ⊥
 FindEnds Tells ds (Err faults.BadAnswer) behind es x = ⊥
 
--- The law of a search for all devices: first it finds those of NFC-A, then the inventory follows. The field is lost exactly
--- where a Break was used.
-pub record FindTells {X : Type 0} (Tells : Result Everybody PollFault → X → Type 0) (ds : List Device) (events : List Event) (x : X) : Type 0 where
+-- The law of a search for all devices: first it finds those of NFC-A, then the inventory follows. The field is lost
+-- exactly where a Break was used.
+pub record FindTells {X : Type 0} (Tells : Result Everybody PollFault → X → Type 0) (ds : List Device)
+    (events : List Event) (x : X) : Type 0 where
   pub found : Result (List Picked) PollFault
   pub behind : List Note
   pub searched : follows finding (receptions events) ≡ Told found behind

@@ -1,5 +1,5 @@
--- What any frames do, whatever each device is doing: nothing here supposes which of them is selected, or that others are aside (who
--- hears what is this project's own).
+-- What any frames do, whatever each device is doing: nothing here supposes which of them is selected, or that others
+-- are aside (who hears what is this project's own).
 use Rattle.std.specs.Prelude.{◌≡◌, ◌≤◌, ℕ, suc, List, [], ◌∷◌, if◌then◌else◌, Option, Some, None, option_map}
 use Rattle.nfc_base.specs.Signal.{Signal}
 use Rattle.nfc_base.specs.declared.event.Event.{Event}
@@ -30,9 +30,11 @@ TagsHandNothing = (w : BenchWorld) (es : List Event) → peer_place w.listeners 
 
 -- ... and where no second one is, the one at its place alone may hand something over, at any frame.
 abbrev pub OnePeerHands : Type 0
-OnePeerHands = (place : ℕ) (ls : List Device) (f : Signal) → peers_in ls ≤ 1 → peer_place ls ≡ Some place → QuietBut devices f place ls
+OnePeerHands = (place : ℕ) (ls : List Device) (f : Signal) → peers_in ls ≤ 1 → peer_place ls ≡ Some place
+    → QuietBut devices f place ls
 
 -- What happens leaves each peer its place.
 abbrev pub PeersStay : Type 0
 PeersStay =
-    (w : BenchWorld) (es : List Event) → (peers_in (replay air w es).listeners ≡ peers_in w.listeners) × (peer_place (replay air w es).listeners ≡ peer_place w.listeners)
+    (w : BenchWorld) (es : List Event) → (peers_in (replay air w es).listeners ≡ peers_in w.listeners)
+    × (peer_place (replay air w es).listeners ≡ peer_place w.listeners)

@@ -1,5 +1,6 @@
--- The links of the bench's devices, and the requests at which no device without a link hands anything over: those that are due while a
--- reader finds or selects devices, reads a tag or writes one. None of them is ATR_REQ, which alone begins a link (NFCIP-1, ISO/IEC 18092).
+-- The links of the bench's devices, and the requests at which no device without a link hands anything over: those that
+-- are due while a reader finds or selects devices, reads a tag or writes one. None of them is ATR_REQ, which alone
+-- begins a link (NFCIP-1, ISO/IEC 18092).
 use Rattle.std.specs.Prelude.{List, [], ℕ, Bool}
 use Rattle.nfc_base.specs.declared.event.Event.{Event}
 use Rattle.nfc_base.specs.Signal.{Signal}
@@ -40,27 +41,32 @@ CalmSensing = IsCalmDue (λ ns. asks (sensing ns))
 abbrev pub CalmSelecting : Type 0
 CalmSelecting = (id : DeviceId) → IsCalmDue (λ ns. asks (selecting id ns))
 
--- So where these commands are asked, be it of what is selected, or behind its selection: whatever the device is seen to be.
+-- So where these commands are asked, be it of what is selected, or behind its selection: whatever the device is seen to
+-- be.
 abbrev pub IsCalmAsking : List Signal → Type 0
-IsCalmAsking commands = ((kind : SeenKind) → IsCalmDue (tag_next kind commands)) × ((id : DeviceId) → IsCalmDue (tag_due id commands))
+IsCalmAsking commands = ((kind : SeenKind) → IsCalmDue (tag_next kind commands))
+    × ((id : DeviceId) → IsCalmDue (tag_due id commands))
 
 -- commands that a read or a write asks, and none, which are a peer's
 abbrev pub CalmReading : Type 0
 CalmReading = (d : Device) (commands : List Signal) → AsksOf d commands → IsCalmAsking commands
 
 abbrev pub CalmWriting : Type 0
-CalmWriting = (message : List ℕ) (d : Device) (commands : List Signal) → AsksWriteOf message d commands → IsCalmAsking commands
+CalmWriting = (message : List ℕ) (d : Device) (commands : List Signal) → AsksWriteOf message d commands
+    → IsCalmAsking commands
 
 abbrev pub CalmUnasked : Type 0
 CalmUnasked = IsCalmAsking []
 
 -- So where a Type 3 tag is read or written, and where nothing more is asked.
 abbrev pub CalmReadingThree : Type 0
-CalmReadingThree = (id store : List ℕ) (commands : List Signal) → ReadAsksThree id store commands → IsCalmDue (three_due id commands)
+CalmReadingThree = (id store : List ℕ) (commands : List Signal) → ReadAsksThree id store commands
+    → IsCalmDue (three_due id commands)
 
 abbrev pub CalmWritingThree : Type 0
 CalmWritingThree =
-    (id store : List ℕ) (locked : List Bool) (message : List ℕ) (commands : List Signal) → WriteAsksThree id store locked message commands
+    (id store : List ℕ) (locked : List Bool) (message : List ℕ) (commands : List Signal)
+    → WriteAsksThree id store locked message commands
     → IsCalmDue (three_due id commands)
 
 abbrev pub CalmUnaskedThree : Type 0

@@ -1,5 +1,5 @@
--- What a reader asks of a selected tag, by what it has heard since: of a Type 4 tag its activation and then blocks, of the others
--- each command in a wait of its own (NFC Forum Digital Protocol; ISO/IEC 14443-4).
+-- What a reader asks of a selected tag, by what it has heard since: of a Type 4 tag its activation and then blocks, of
+-- the others each command in a wait of its own (NFC Forum Digital Protocol; ISO/IEC 14443-4).
 use Rattle.std.specs.Prelude.{ℕ, zero, suc, nat_lt, List, [], ◌∷◌, if◌then◌else◌, Option, Some, None}
 use Rattle.nfc_base.specs.Signal.{Signal}
 use Rattle.nfc_base.specs.declared.event.Heard.{Heard}

@@ -1,5 +1,5 @@
--- The devices that stand in the bench's field, as polling finds them: those of NFC-A in crowd order, and the Type 5 tag, or that
--- there are several.
+-- The devices that stand in the bench's field, as polling finds them: those of NFC-A in crowd order, and the Type 5
+-- tag, or that there are several.
 use Rattle.std.specs.Prelude.{ℕ, List, [], ◌∷◌, filter_map, Option, Some, None}
 use Rattle.nfca_poll.specs.declared.kind.Kind.TheVariants as kinds
 use Rattle.nfca_poll.specs.declared.fault.Picked.{Picked}

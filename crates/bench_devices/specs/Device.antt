@@ -1,5 +1,6 @@
--- The devices of the bench: a Type 2 tag, a Type 4 tag or a peer under the listener front of its identifier, and a Type 5 or a Type 3 tag,
--- which light selects (NFC Forum Digital Protocol; NFC Forum Type 2 Tag, Type 3 Tag, Type 4 Tag and Type 5 Tag; NFCIP-1, ISO/IEC 18092).
+-- The devices of the bench: a Type 2 tag, a Type 4 tag or a peer under the listener front of its identifier, and a Type
+-- 5 or a Type 3 tag, which light selects (NFC Forum Digital Protocol; NFC Forum Type 2 Tag, Type 3 Tag, Type 4 Tag and
+-- Type 5 Tag; NFCIP-1, ISO/IEC 18092).
 use Rattle.std.specs.Prelude.{ℕ, List, [], Bool, true, false, not, ◌&&◌, ◌||◌, if◌then◌else◌, Option, Some, None}
 use Rattle.nfc_base.specs.declared.frame.Tech.{Tech}
 use Rattle.nfc_base.specs.declared.frame.Tech.TheVariants.{A, V, F}
@@ -38,7 +39,8 @@ use Rattle.bench_devices.specs.declared.device.Device.{Device}
 use Rattle.bench_devices.specs.declared.device.Device.TheVariants.{T2, T4, Peer, T5, T3}
 use Rattle.bench_devices.specs.declared.polling.SeenKind.{SeenKind}
 use Rattle.bench_devices.specs.Kinds.{DeviceKind, T2Kind, T3Kind, T4Kind, PeerKind, T5Kind, seen_by}
-use Rattle.bench_devices.specs.Powered.{light_three, light_five, powered_answer, powered_after, powered_woken, powered_darkened, powered_locked}
+use Rattle.bench_devices.specs.Powered.{light_three, light_five, powered_answer, powered_after, powered_woken}
+use Rattle.bench_devices.specs.Powered.{powered_darkened, powered_locked}
 use Rattle.dep_link.specs.Target.{TargetState}
 use Rattle.dep_link.specs.Target as targets
 use Rattle.bench_devices.specs.Cards.{T4Near, card_now}
@@ -72,7 +74,8 @@ abbrev pub by_card : T4State → CardState → CardStep → T4Did
 by_card tag t card.Quiet = said steps.Quiet tag t
 by_card tag t (card.Reply f) = said (steps.Reply f) tag t
 by_card tag t (card.Deliver command) =
-    said (steps.Reply (block_frame (reply_block t (t4_answer tag command.items)))) (t4_after tag command.items) (replied t (t4_answer tag command.items))
+    said (steps.Reply (block_frame (reply_block t (t4_answer tag command.items)))) (t4_after tag command.items)
+    (replied t (t4_answer tag command.items))
 by_card tag t (card.Asleep f) = said (steps.Sleep f) tag t
 
 abbrev pub on_link : T4State → CardState → Signal → T4Did
@@ -171,7 +174,8 @@ device_locks (Peer d) = []
 device_locks (T5 p) = p.tag.locked
 device_locks (T3 p) = p.tag.locked
 
--- its card's end as it was made: how often it asks for more time before an answer, and by which value; no other device has one
+-- its card's end as it was made: how often it asks for more time before an answer, and by which value; no other device
+-- has one
 abbrev pub device_made : Device → CardState
 device_made (T2 d) = ends.fresh 0
 device_made (T4 d) = ends.darkened d.upper.card
@@ -281,7 +285,16 @@ abbrev pub new_t2 : List ℕ → List ℕ → Device
 new_t2 id store = T2 (record { id = id; front = Off; upper = unlocked store })
 
 abbrev pub new_t4 : List ℕ → ℕ → List ℕ → List ℕ → Device
-new_t4 id code container file = T4 (record { id = id; front = Off; upper = record { tag = t4.fresh code container file; card = ends.fresh code; linked = false } })
+new_t4 id code container file =
+    T4 (record {
+      id = id;
+      front = Off;
+      upper = record {
+        tag = t4.fresh code container file;
+        card = ends.fresh code;
+        linked = false;
+      };
+    })
 
 abbrev pub new_t5 : List ℕ → ℕ → List ℕ → Device
 new_t5 id size store = T5 (record { tag = fresh id size store; lit = false })
@@ -293,8 +306,8 @@ new_t3 id store = T3 (record { tag = t3.unlocked id store; lit = false })
 abbrev pub new_peer : List ℕ → ℕ → ℕ → Device
 new_peer id lr miu = Peer (record { id = id; front = Off; upper = new_near id lr miu })
 
--- How a tag is read, and how many bytes one READ asks for, which says nothing of a Type 4 tag. Neither says anything of a device that
--- isn't read (`may_be_read`).
+-- How a tag is read, and how many bytes one READ asks for, which says nothing of a Type 4 tag. Neither says anything of
+-- a device that isn't read (`may_be_read`).
 abbrev pub how_of : Device → How
 how_of (T2 d) = hows.T2
 how_of (T4 d) = hows.T4
@@ -356,7 +369,15 @@ may_be_busy (T3 p) = false
 abbrev pub device_busy : ℕ → ℕ → Device → Device
 device_busy count times (T2 d) = T2 d
 device_busy count times (T4 d) =
-    T4 (record { id = d.id; front = d.front; upper = record { tag = d.upper.tag; card = ends.made_busy d.upper.card count times; linked = d.upper.linked } })
+    T4 (record {
+      id = d.id;
+      front = d.front;
+      upper = record {
+        tag = d.upper.tag;
+        card = ends.made_busy d.upper.card count times;
+        linked = d.upper.linked;
+      };
+    })
 device_busy count times (Peer d) = Peer (record { id = d.id; front = d.front; upper = near_busy count times d.upper })
 device_busy count times (T5 p) = T5 p
 device_busy count times (T3 p) = T3 p

@@ -24,7 +24,9 @@ use Rattle.bench_devices.specs.declared.device.Device.TheVariants as placed
 use Rattle.dep_link.specs.Target.{TargetState}
 use Rattle.bench_devices.specs.Kinds.{DeviceKind, T2Kind, T3Kind, T4Kind, PeerKind, T5Kind}
 use Rattle.bench_devices.specs.Peers.{IsMadePeer}
-use Rattle.bench_devices.specs.Device.{BenchWorld, air, devices, most_devices, device_id, device_store, device_locks, device_made, device_target, device_ready, device_selected, device_commands, how_of, size_of, kind_of}
+use Rattle.bench_devices.specs.Device.{BenchWorld, air, devices, most_devices, device_id, device_store, device_locks}
+use Rattle.bench_devices.specs.Device.{device_made, device_target, device_ready, device_selected, device_commands}
+use Rattle.bench_devices.specs.Device.{how_of, size_of, kind_of}
 use Rattle.bench_devices.specs.Placed.{device_with, IfPlaced}
 
 -- the meanings of the bench's devices as listeners
@@ -38,8 +40,8 @@ ghosts = record {
   commands = device_commands;
 }
 
--- What no frame and no light changes of a device, whatever was sent; of a Type 4 tag also its code, its container, and its card's end
--- as it was made, and of a peer its end of NFC-DEP as it was made.
+-- What no frame and no light changes of a device, whatever was sent; of a Type 4 tag also its code, its container, and
+-- its card's end as it was made, and of a peer its end of NFC-DEP as it was made.
 pub record Fixed : Type 0 where
   pub id : List ℕ
   pub kind : DeviceKind
@@ -86,15 +88,17 @@ pub record Kept : Type 0 where
 abbrev pub kept : Device → Kept
 kept d = record { fixed = fixed d; store = device_store d }
 
--- A device as it may stand in the field: its store is one of its kind, and a peer has none. Of a Type 3 tag that is whole blocks: what an
--- Update made of its attribute block may be none that a new tag has.
+-- A device as it may stand in the field: its store is one of its kind, and a peer has none. Of a Type 3 tag that is
+-- whole blocks: what an Update made of its attribute block may be none that a new tag has.
 abbrev pub IsSoundAs : DeviceKind → Kept → Type 0
 IsSoundAs T2Kind k = IsIdent k.fixed.id × (k.fixed.size ≡ 16) × IsT2Store k.store
 IsSoundAs T4Kind k =
-    IsIdent k.fixed.id × (file : List ℕ) × (k.store ≡ k.fixed.container ++ file) × IsT4Store k.fixed.code k.fixed.container file
+    IsIdent k.fixed.id × (file : List ℕ) × (k.store ≡ k.fixed.container ++ file)
+    × IsT4Store k.fixed.code k.fixed.container file
     × (k.fixed.made.code ≡ k.fixed.code) × IsMade k.fixed.made
 IsSoundAs PeerKind k = IsIdent k.fixed.id × (k.store ≡ []) × IsMadePeer k.fixed.id k.fixed.target
-IsSoundAs T5Kind k = (k.fixed.how ≡ hows.T5 k.fixed.id) × (length k.fixed.id ≡ id_size) × ((i : ℕ) → slice_index k.fixed.id i < 256) × IsT5Store k.fixed.size k.store
+IsSoundAs T5Kind k = (k.fixed.how ≡ hows.T5 k.fixed.id) × (length k.fixed.id ≡ id_size)
+    × ((i : ℕ) → slice_index k.fixed.id i < 256) × IsT5Store k.fixed.size k.store
 IsSoundAs T3Kind k = (length k.fixed.id ≡ t3.id_size) × ((i : ℕ) → slice_index k.fixed.id i < 256) × t3.IsBlocks k.store
 
 abbrev pub IsSound : Kept → Type 0
@@ -113,7 +117,8 @@ pub record AreTame (ks : List Kept) : Type 0 where
   pub sound : AreSound ks
   pub few : length ks ≤ most_devices
 
--- What frames may do to a device, whatever they are: what is fixed of it stays, and its store is as long, and one of its kind still.
+-- What frames may do to a device, whatever they are: what is fixed of it stays, and its store is as long, and one of
+-- its kind still.
 pub record StaysDevice (old new : Device) : Type 0 where
   pub fixed : fixed new ≡ fixed old
   pub long : length (device_store new) ≡ length (device_store old)
@@ -157,7 +162,8 @@ IsStoreOf d store = IsSound (record { fixed = fixed d; store = store })
 
 -- each image is a store that the device may have
 abbrev pub AreImages : List ℕ → BenchWorld → List Event → Type 0
-AreImages id w es = IfPlaced (λ d. AllByRecursion (IsStoreOf d) (images_of id w es)) (Unit {0}) (device_with id w.listeners)
+AreImages id w es = IfPlaced (λ d. AllByRecursion (IsStoreOf d) (images_of id w es)) (Unit {0})
+    (device_with id w.listeners)
 
 -- What some events left of what stays, by what may have changed.
 abbrev pub LeavesDevices : Changes → BenchWorld → List Event → BenchWorld → Type 0
@@ -183,7 +189,8 @@ ImagesStay = (w : BenchWorld) (es : List Event) (id : List ℕ) → AreSound (ma
 -- ... and a device that is aside keeps its store too, at each frame that another one may be asked.
 abbrev pub AsideKeeps : Type 0
 AsideKeeps =
-    (own : List ℕ) (t : Tech) (f : Signal) (d : Device) → MayAsk (plain_kind t) own f → IsNamedIn t own → IsAside ghosts own d
+    (own : List ℕ) (t : Tech) (f : Signal) (d : Device) → MayAsk (plain_kind t) own f → IsNamedIn t own
+    → IsAside ghosts own d
     → kept (stepped_by devices d f None) ≡ kept d
 
 -- So all that a device is asked leaves the others all that stays of them, whatever it does to its store.
@@ -192,5 +199,6 @@ IsAsideOf own d = (device_id d ≡ own → ⊥) → IsAside ghosts own d
 
 abbrev pub OthersKeep : Type 0
 OthersKeep =
-    (own : List ℕ) (t : Tech) (w : BenchWorld) (es : List Event) → IsNamedIn t own → AllByRecursion (IsAsideOf own) w.listeners
+    (own : List ℕ) (t : Tech) (w : BenchWorld) (es : List Event) → IsNamedIn t own
+    → AllByRecursion (IsAsideOf own) w.listeners
     → EachAsked (MayAsk (plain_kind t) own) es → AllKeepBut own w.listeners (replay air w es).listeners

@@ -36,13 +36,17 @@ use Rattle.bench_devices.specs.Polling.{Told, asks, selecting}
 -- What the selection asks is due first. Behind one that told a peer it is ATR_REQ; behind one that told a tag or a
 -- fault it is nothing.
 pub record LinkAsks : Type 0 where
-  pub first : (id : DeviceId) (general : List ℕ) (ns : List Note) (n : Next) → asks (selecting id ns) ≡ n → IsDemand n → linking id general ns ≡ n
-  pub behind : (id : DeviceId) (general : List ℕ) (kind : SeenKind) (hs ns : List Note) → selecting id hs ≡ Told (Ok kind) [] → linking id general (hs ++ ns) ≡ peer_next kind general ns
-  pub missed : (id : DeviceId) (general : List ℕ) (e : PollFault) (hs ns : List Note) → selecting id hs ≡ Told (Err e) [] → linking id general (hs ++ ns) ≡ Over
+  pub first : (id : DeviceId) (general : List ℕ) (ns : List Note) (n : Next) → asks (selecting id ns) ≡ n → IsDemand n
+      → linking id general ns ≡ n
+  pub behind : (id : DeviceId) (general : List ℕ) (kind : SeenKind) (hs ns : List Note)
+      → selecting id hs ≡ Told (Ok kind) [] → linking id general (hs ++ ns) ≡ peer_next kind general ns
+  pub missed : (id : DeviceId) (general : List ℕ) (e : PollFault) (hs ns : List Note)
+      → selecting id hs ≡ Told (Err e) [] → linking id general (hs ++ ns) ≡ Over
 
 -- a peer that is selected, as a selection leaves it
 abbrev pub PeerStands : Type 0
-PeerStands = (a : Air Device) (place : ℕ) (d : Device) → Stands (moment a) place d → is_tag d ≡ false → PeerAt (device_id d) place a.listeners
+PeerStands = (a : Air Device) (place : ℕ) (d : Device) → Stands (moment a) place d → is_tag d ≡ false
+    → PeerAt (device_id d) place a.listeners
 
 -- so all others are aside
 abbrev pub OthersAside : Type 0
@@ -52,19 +56,23 @@ OthersAside = (own : List ℕ) (place : ℕ) (ls : List Device) → PeerAt own p
 -- or six receptions were bad.
 abbrev pub SwapsLeave : Type 0
 SwapsLeave =
-    (own : List ℕ) (place : ℕ) (a b : DepSeen Device) (swaps : List Swap) → Chained ghosts device_end swaps a b → (b.over ≡ Some Memory → ⊥) → PeerAt own place a.air.listeners
+    (own : List ℕ) (place : ℕ) (a b : DepSeen Device) (swaps : List Swap) → Chained ghosts device_end swaps a b
+    → (b.over ≡ Some Memory → ⊥) → PeerAt own place a.air.listeners
     → TalkLeaves own place a.air.listeners b.air.listeners
 
 -- A link that is ready for a swap is in step with the peer at its place.
 abbrev pub ReadyInStep : Type 0
-ReadyInStep = (own : List ℕ) (place : ℕ) (a : DepSeen Device) → IsDepReady ghosts device_end a → PeerAt own place a.air.listeners → InStepAt a.air place a.initiator
+ReadyInStep = (own : List ℕ) (place : ℕ) (a : DepSeen Device) → IsDepReady ghosts device_end a
+    → PeerAt own place a.air.listeners → InStepAt a.air place a.initiator
 
 -- A selected peer with a link does what its target's table says. So where one stands in the lit field, all others being
 -- aside, and its end is in step with an initiator, the field is in step there.
 abbrev pub LinkedInStep : Type 0
 LinkedInStep =
-    (a : Air Device) (place : ℕ) (own : List ℕ) (before : List Device) (l : Device) (behind : List Device) (i : InitState) → a.lit ≡ true → a.listeners ≡ before ++ l ∷ behind
-    → length before ≡ place → PeerAt own place a.listeners → own ≡ device_id l → device_selected l ≡ true → device_linked l ≡ true → InStep i (device_end l)
+    (a : Air Device) (place : ℕ) (own : List ℕ) (before : List Device) (l : Device) (behind : List Device)
+    (i : InitState) → a.lit ≡ true → a.listeners ≡ before ++ l ∷ behind
+    → length before ≡ place → PeerAt own place a.listeners → own ≡ device_id l → device_selected l ≡ true
+    → device_linked l ≡ true → InStep i (device_end l)
     → InStepAt a place i
 
 -- No device hands anything over at RLS_REQ.
@@ -79,34 +87,45 @@ module _ {A : Type 0} (restarts : A → List ℕ → A → Type 0) (steps : A �
   -- one turn, over whatever far end
   abbrev pub TurnLeaves : Type 0
   TurnLeaves =
-      (own : List ℕ) (place : ℕ) (old new : Air Device) (f : Signal) (heard : Option Heard) (far after : A) → f ≡ whole_a f.bytes → PeerAt own place old.listeners
+      (own : List ℕ) (place : ℕ) (old new : Air Device) (f : Signal) (heard : Option Heard) (far after : A)
+      → f ≡ whole_a f.bytes → PeerAt own place old.listeners
       → TurnIs devices restarts steps old f far heard new after → TalkLeaves own place old.listeners new.listeners
 
   -- the release of a link
   abbrev pub ReleaseLeaves : (A → List ℕ → A → Type 0) → (A → Bool) → Type 0
   ReleaseLeaves stops is_stuck =
-      (own : List ℕ) (place : ℕ) (old new : Air Device) (far after : A) (result : Result (Unit {0}) LinkEnd) → PeerAt own place old.listeners
-      → Releases devices restarts steps stops is_stuck old far result new after → TalkLeaves own place old.listeners new.listeners
+      (own : List ℕ) (place : ℕ) (old new : Air Device) (far after : A) (result : Result (Unit {0}) LinkEnd)
+      → PeerAt own place old.listeners
+      → Releases devices restarts steps stops is_stuck old far result new after
+      → TalkLeaves own place old.listeners new.listeners
 
   -- The opening of a link, from the selection of its peer on, is a stretch of the world with far ends at the peer's
   -- place, where its far end begins a new link as often as ATR_REQ arrives. It takes no number.
   abbrev pub OpensFar : {F : Type 0} → FarTable F → (A → Choosing F) → Type 0
   OpensFar {F} t view = IsFarTable t → IsOfTable restarts steps t view
-      → (id : DeviceId) (general : List ℕ) (place : ℕ) (d : Device) (result : Result (InitState × ArrayVec ℕ) EndCause) (old mid new : Air Device) (far after : A) (notes : List Note)
-      → Going air (λ ns. asks (selecting id ns)) (moment old) (moment mid) notes → selecting id notes ≡ Told (Ok seen.Peer) []
-      → Stands (moment mid) place d → is_tag d ≡ false → (o : Opens restarts steps mid far new after general place d result) → (os : List (Option F))
-      → FarGoing devices device_linked t (linking id general) (moment old) (moment new) (notes ++ o.notes) place os (view far) (view after)
+      → (id : DeviceId) (general : List ℕ) (place : ℕ) (d : Device) (result : Result (InitState × ArrayVec ℕ) EndCause)
+      (old mid new : Air Device) (far after : A) (notes : List Note)
+      → Going air (λ ns. asks (selecting id ns)) (moment old) (moment mid) notes
+      → selecting id notes ≡ Told (Ok seen.Peer) []
+      → Stands (moment mid) place d → is_tag d ≡ false
+      → (o : Opens restarts steps mid far new after general place d result) → (os : List (Option F))
+      → FarGoing devices device_linked t (linking id general) (moment old) (moment new) (notes ++ o.notes) place os
+      (view far) (view after)
       × ((view after).numbers ≡ (view far).numbers)
 
 -- So is a selection alone, whatever it came to, at which no far end is asked anything.
 abbrev pub SelectsFar : {F : Type 0} → FarTable F → Type 0
 SelectsFar {F} t = IsFarTable t
-    → (id : DeviceId) (general : List ℕ) (old new : Moment (World Device)) (notes : List Note) → Going air (λ ns. asks (selecting id ns)) old new notes
-    → (place : ℕ) (os : List (Option F)) (far : Choosing F) → FarGoing devices device_linked t (linking id general) old new notes place os far far
+    → (id : DeviceId) (general : List ℕ) (old new : Moment (World Device)) (notes : List Note)
+    → Going air (λ ns. asks (selecting id ns)) old new notes
+    → (place : ℕ) (os : List (Option F)) (far : Choosing F)
+    → FarGoing devices device_linked t (linking id general) old new notes place os far far
 
 -- What is said so in that world, in frames of whole bytes, leaves what one turn does.
 abbrev pub FarLeaves : {F : Type 0} → FarTable F → Type 0
 FarLeaves {F} t =
-    (own : List ℕ) (place at : ℕ) (next : List Note → Next) (old new : Moment (World Device)) (notes : List Note) (os : List (Option F)) (far after : Choosing F)
+    (own : List ℕ) (place at : ℕ) (next : List Note → Next) (old new : Moment (World Device)) (notes : List Note)
+    (os : List (Option F)) (far after : Choosing F)
     → ((ns : List Note) (f : Signal) → next ns ≡ Asks f → f ≡ whole_a f.bytes) → PeerAt own place old.world.listeners
-    → FarGoing devices device_linked t next old new notes at os far after → TalkLeaves own place old.world.listeners new.world.listeners
+    → FarGoing devices device_linked t next old new notes at os far after
+    → TalkLeaves own place old.world.listeners new.world.listeners

@@ -1,5 +1,5 @@
--- Noise as a bench counts it: by tries, each of which is a turn, over all that happened in a command (tries, rounds and missed
--- ends are this project's own).
+-- Noise as a bench counts it: by tries, each of which is a turn, over all that happened in a command (tries, rounds and
+-- missed ends are this project's own).
 use Rattle.std.specs.Prelude.{◌≡◌, ◌<◌, ℕ, List, length, filter, Bool, true, false, ◌&&◌}
 use Rattle.nfc_base.specs.Signal.{Signal, is_nfc_a}
 use Rattle.nfc_base.specs.Trace.{turns}

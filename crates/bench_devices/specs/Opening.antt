@@ -62,7 +62,8 @@ OpeningEnds new place d (Err Memory) = new.lit ≡ true
 -- So it was asked of the peer at a place, up to some end: each request was due, and this is told by what was heard. The
 -- field is lost exactly where a Break was used, and a reception was bad only where a transmission didn't pass. The far
 -- end was restarted with these general bytes as often as ATR_REQ arrived, once at least where the link is open.
-pub record Opens {F : Type 0} (restarts : F → List ℕ → F → Type 0) (steps : F → List ℕ → List ℕ → F → Type 0) (old : Air Device) (far : F) (new : Air Device) (after : F)
+pub record Opens {F : Type 0} (restarts : F → List ℕ → F → Type 0) (steps : F → List ℕ → List ℕ → F → Type 0)
+    (old : Air Device) (far : F) (new : Air Device) (after : F)
     (general : List ℕ) (place : ℕ) (d : Device) (result : Result (InitState × ArrayVec ℕ) EndCause) : Type 0 where
   pub notes : List Note
   pub speaks : Speaks devices restarts steps (atr_next general) old far new after notes
@@ -77,6 +78,8 @@ pub record Opens {F : Type 0} (restarts : F → List ℕ → F → Type 0) (step
   pub leaves : TalkLeaves (device_id d) place old.listeners new.listeners
 
 -- so it was, of whatever peer stands at a place
-abbrev pub OpensAny : {F : Type 0} → (F → List ℕ → F → Type 0) → (F → List ℕ → List ℕ → F → Type 0) → Air Device → F → Air Device → F → List ℕ → Result (InitState × ArrayVec ℕ) EndCause → Type 0
+abbrev pub OpensAny : {F : Type 0} → (F → List ℕ → F → Type 0) → (F → List ℕ → List ℕ → F → Type 0) → Air Device → F
+    → Air Device → F → List ℕ → Result (InitState × ArrayVec ℕ) EndCause → Type 0
 OpensAny restarts steps old far new after general result =
-    (place : ℕ) (d : Device) → Stands (moment old) place d → is_tag d ≡ false → Opens restarts steps old far new after general place d result
+    (place : ℕ) (d : Device) → Stands (moment old) place d → is_tag d ≡ false
+    → Opens restarts steps old far new after general place d result

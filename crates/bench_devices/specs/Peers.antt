@@ -1,6 +1,8 @@
--- A peer above a listener front (NFCIP-1, ISO/IEC 18092; NFC Forum Digital Protocol and LLCP): the target's end of NFC-DEP, which says
--- of itself what a peer of the bench says. What stands in its NFCID3, and which general bytes it has, are this project's own.
-use Rattle.std.specs.Prelude.{◌≡◌, ℕ, ◌-◌, ◌<◌, ◌≤◌, List, ◌++◌, length, replicate, Bool, true, false, not, ◌||◌, if◌then◌else◌, Option, Some, None}
+-- A peer above a listener front (NFCIP-1, ISO/IEC 18092; NFC Forum Digital Protocol and LLCP): the target's end of
+-- NFC-DEP, which says of itself what a peer of the bench says. What stands in its NFCID3, and which general bytes it
+-- has, are this project's own.
+use Rattle.std.specs.Prelude.{◌≡◌, ℕ, ◌-◌, ◌<◌, ◌≤◌, List, ◌++◌, length, replicate, Bool, true, false, not, ◌||◌}
+use Rattle.std.specs.Prelude.{if◌then◌else◌, Option, Some, None}
 use Rattle.nfc_base.specs.Signal.{Signal}
 use Rattle.nfc_base.specs.Far.{FarUse, Untouched, Hands}
 use Rattle.nfc_base.specs.TagLinks.{TagState, TagStep}
@@ -14,7 +16,8 @@ use Rattle.dep_link.specs.declared.target.TargetStep.{TargetStep}
 use Rattle.dep_link.specs.declared.target.TargetStep.TheVariants as target
 use Rattle.dep_link.specs.Frames.{air_frame, is_atr_req}
 use Rattle.nfc_base.specs.Pieces.{most_busy}
-use Rattle.dep_link.specs.Target.{TargetState, TargetTurn, target_table, replied, reply_frame, fresh, darkened, made_busy}
+use Rattle.dep_link.specs.Target.{TargetState, TargetTurn, target_table, replied, reply_frame, fresh, darkened}
+use Rattle.dep_link.specs.Target.{made_busy}
 use Rattle.dep_link.specs.Peers.{target_use}
 
 -- the target's end, and whether ATR_REQ opened a link to it
@@ -72,7 +75,8 @@ abbrev pub takes_frame : PeerNear → Signal → Bool
 takes_frame u f = u.linked || is_atr_req f
 
 abbrev pub peer_if : Bool → PeerNear → Signal → Option (List ℕ) → PeerDid
-peer_if taken u f reply = if taken then by_turn (target_table u.target f) reply else record { says = steps.Foreign; after = u }
+peer_if taken u f reply = if taken then by_turn (target_table u.target f) reply
+    else record { says = steps.Foreign; after = u }
 
 abbrev pub peer_did : PeerNear → Signal → Option (List ℕ) → PeerDid
 peer_did u f reply = peer_if (takes_frame u f) u f reply
@@ -106,8 +110,8 @@ no_link u = not u.linked
 abbrev pub made_near : PeerNear → TargetState
 made_near u = darkened u.target
 
--- An end of a peer with this identifier as it may be made: it says of itself what new peers do, and asks for more time before a
--- reply at most five times, by a value from 1 to 59.
+-- An end of a peer with this identifier as it may be made: it says of itself what new peers do, and asks for more time
+-- before a reply at most five times, by a value from 1 to 59.
 pub record IsMadePeer (id : List ℕ) (t : TargetState) : Type 0 where
   pub lr : ℕ
   pub miu : ℕ
@@ -123,17 +127,21 @@ abbrev pub near_busy : ℕ → ℕ → PeerNear → PeerNear
 near_busy count times u = record { target = made_busy u.target count times; linked = u.linked }
 
 -- What a step of its link does, with the far end: a link that begins, a payload with its reply, or nothing.
-abbrev pub Handles : {A : Type 0} → (A → List ℕ → A → Type 0) → (A → List ℕ → List ℕ → A → Type 0) → TargetState → TargetStep → A → UpStep → TargetState → A → Type 0
+abbrev pub Handles : {A : Type 0} → (A → List ℕ → A → Type 0) → (A → List ℕ → List ℕ → A → Type 0) → TargetState
+    → TargetStep → A → UpStep → TargetState → A → Type 0
 Handles restarts obeys t target.Quiet far s u after = (s ≡ steps.Quiet) × (u ≡ t) × (after ≡ far)
 Handles restarts obeys t (target.Reply f) far s u after = (s ≡ steps.Reply f) × (u ≡ t) × (after ≡ far)
-Handles restarts obeys t (target.Restart general f) far s u after = (s ≡ steps.Reply f) × (u ≡ t) × restarts far general.items after
+Handles restarts obeys t (target.Restart general f) far s u after =
+    (s ≡ steps.Reply f) × (u ≡ t) × restarts far general.items after
 Handles restarts obeys t (target.Deliver payload) far s u after =
-    (r : List ℕ) × obeys far payload.items r after × (length r ≤ 2178) × (s ≡ steps.Reply (air_frame (reply_frame t r))) × (u ≡ replied t r)
+    (r : List ℕ) × obeys far payload.items r after × (length r ≤ 2178) × (s ≡ steps.Reply (air_frame (reply_frame t r)))
+    × (u ≡ replied t r)
 Handles restarts obeys t (target.Asleep f) far s u after = (s ≡ steps.Sleep f) × (u ≡ t) × (after ≡ far)
 Handles restarts obeys t (target.Released f) far s u after = (s ≡ steps.Idle f) × (u ≡ t) × (after ≡ far)
 
 -- A payload stopped the far end for want of memory.
-pub record Halts {A : Type 0} (stops : A → List ℕ → A → Type 0) (is_stuck : A → Bool) (t : TargetState) (does : TargetStep) (far : A) (u : TargetState) (after : A) : Type 0 where
+pub record Halts {A : Type 0} (stops : A → List ℕ → A → Type 0) (is_stuck : A → Bool) (t : TargetState)
+    (does : TargetStep) (far : A) (u : TargetState) (after : A) : Type 0 where
   pub payload : List ℕ
   pub handed : target_use does ≡ Hands payload
   pub stopped : stops far payload after

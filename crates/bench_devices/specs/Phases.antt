@@ -73,8 +73,8 @@ pub record Stands (a : Moment (World Device)) (place : ℕ) (d : Device) : Type 
   pub first : AllByRecursion (IsAside ghosts (device_id d)) before
   pub later : AllByRecursion (IsAside ghosts (device_id d)) behind
 
--- Something was asked of the field, each request being due, and this is known of it. Of what stays of the devices this alone may
--- have changed. Want of memory may have cut it off between two turns.
+-- Something was asked of the field, each request being due, and this is known of it. Of what stays of the devices this
+-- alone may have changed. Want of memory may have cut it off between two turns.
 pub record AskedPart (what : Changes) (due : List Note → Next) (old new : Moment (World Device)) : Type 0 where
   pub notes : List Note
   pub going : Going air due old new notes
@@ -111,10 +111,12 @@ SelectsTo id (Missed e) old new = Selects id (Err e) old new
 abbrev pub SelectionCut : DeviceId → Moment (World Device) → Moment (World Device) → Type 0
 SelectionCut id old new = AskedPart NoStore (λ ns. asks (selecting id ns)) old new
 
--- A selected tag was asked all that a command asks of it, up to a break or the sixth bad reception of a wait: what is due of it, by
--- what was heard, and what tells of the end are those of the command. Without noise no wait has six bad receptions.
+-- A selected tag was asked all that a command asks of it, up to a break or the sixth bad reception of a wait: what is
+-- due of it, by what was heard, and what tells of the end are those of the command. Without noise no wait has six bad
+-- receptions.
 pub record AsksTag {X : Type 0} (what : Changes) (IsAll : List Signal → Type 0) (due : List Signal → List Note → Next)
-    (Tells : List Signal → List Note → X → Type 0) (Fails : AskFault → X → Type 0) (old new : Moment (World Device)) (x : X) : Type 0 where
+    (Tells : List Signal → List Note → X → Type 0) (Fails : AskFault → X → Type 0) (old new : Moment (World Device))
+    (x : X) : Type 0 where
   pub commands : List Signal
   pub asks : IsAll commands
   pub asked : Asked what (due commands) old new
@@ -122,7 +124,8 @@ pub record AsksTag {X : Type 0} (what : Changes) (IsAll : List Signal → Type 0
   pub lost : Fails asking.FieldLost x ↔ (0 < breaks asked.going.events)
   pub noisy : Fails asking.SixBad x → 0 < noise asked.going.events
 
--- So far it was asked, until memory was wanting, which alone ended it: what was heard broke off no wait, and no Break was used.
+-- So far it was asked, until memory was wanting, which alone ended it: what was heard broke off no wait, and no Break
+-- was used.
 pub record AsksSome (what : Changes) (IsAll : List Signal → Type 0) (due : List Signal → List Note → Next)
     (GoesOn : List Signal → List Note → Type 0) (old new : Moment (World Device)) : Type 0 where
   pub commands : List Signal
@@ -140,7 +143,8 @@ FailsRead asking.Protocol r = ⊥
 
 -- Reading asked what it asks of a device, and tells what came of it.
 abbrev pub Reads : Moment (World Device) → Moment (World Device) → Device → Result Found ReadFault → Type 0
-Reads old new d r = AsksTag NoStore (AsksOf d) (tag_next (seen_of d)) (TellsBy (seen_of d) (ShowsOf d) FailsRead) FailsRead old new r
+Reads old new d r = AsksTag NoStore (AsksOf d) (tag_next (seen_of d)) (TellsBy (seen_of d) (ShowsOf d) FailsRead)
+    FailsRead old new r
 
 -- Reading was cut off by want of memory.
 abbrev pub ReadsSome : Moment (World Device) → Moment (World Device) → Device → Type 0
@@ -165,8 +169,8 @@ FailsWrite asking.SixBad r = r ≡ Err writing.SixBad
 FailsWrite asking.Memory r = ⊥
 FailsWrite asking.Protocol r = ⊥
 
--- Writing asked what it asks of a device, and tells what came of it. Its stores keep the law of a write, whatever stopped it; no
--- store of another device changes, and no locked block of any.
+-- Writing asked what it asks of a device, and tells what came of it. Its stores keep the law of a write, whatever
+-- stopped it; no store of another device changes, and no locked block of any.
 pub record Writes (old new : Moment (World Device)) (d : Device) (message : List ℕ) (r : WriteEnd) : Type 0 where
   pub told : AsksTag (StoreOf (device_id d)) (AsksWriteOf message d) (tag_next (seen_of d))
       (TellsBy (seen_of d) (ShowsWrite message d) FailsWrite) FailsWrite old new r
@@ -174,16 +178,19 @@ pub record Writes (old new : Moment (World Device)) (d : Device) (message : List
 
 -- Writing was cut off by want of memory; until there its stores keep the law too.
 pub record WritesSome (old new : Moment (World Device)) (d : Device) (message : List ℕ) : Type 0 where
-  pub told : AsksSome (StoreOf (device_id d)) (AsksWriteOf message d) (tag_next (seen_of d)) (GoesOnBy (seen_of d)) old new
+  pub told : AsksSome (StoreOf (device_id d)) (AsksWriteOf message d) (tag_next (seen_of d)) (GoesOnBy (seen_of d)) old
+      new
   pub law : KeepsWriteLaw message d Stopped old.world told.asked.going.events
 
 -- So the device that stands at a place was written as far as memory reached.
 abbrev pub CutAtWrite : Moment (World Device) → Moment (World Device) → ℕ → List ℕ → WriteEnd → Type 0
-CutAtWrite old new place message r = r ≡ Err writing.Memory → (d : Device) → Stands old place d → WritesSome old new d message
+CutAtWrite old new place message r = r ≡ Err writing.Memory → (d : Device) → Stands old place d
+    → WritesSome old new d message
 
 -- So the device that stands at a place was written, unless memory was wanting.
 abbrev pub WritesAt : Moment (World Device) → Moment (World Device) → ℕ → List ℕ → WriteEnd → Type 0
-WritesAt old new place message r = (r ≡ Err writing.Memory → ⊥) → (d : Device) → Stands old place d → Writes old new d message r
+WritesAt old new place message r = (r ≡ Err writing.Memory → ⊥) → (d : Device) → Stands old place d
+    → Writes old new d message r
 
 -- a search is told by what it has come to
 abbrev pub IsEnd : Result Everybody PollFault → Result Everybody PollFault → Type 0

@@ -17,7 +17,8 @@ without id (d ∷ ds) = if pointwise nat_eq (device_id d) id then ds else d ∷ 
 -- the devices, the first that has an identifier being changed so; the others stay
 abbrev pub with_changed : (Device → Device) → List ℕ → List Device → List Device
 with_changed change id [] = []
-with_changed change id (d ∷ ds) = if pointwise nat_eq (device_id d) id then change d ∷ ds else d ∷ with_changed change id ds
+with_changed change id (d ∷ ds) = if pointwise nat_eq (device_id d) id then change d ∷ ds
+    else d ∷ with_changed change id ds
 
 -- Something holds of the device with an identifier, which is placed.
 abbrev pub OfPlaced : (Device → Type 0) → Option Device → Type 0

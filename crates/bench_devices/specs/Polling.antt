@@ -1,5 +1,5 @@
--- Polling in a command: which request is due, and what it has come to (NFC Forum Digital Protocol). That a reset stands before
--- the first request is this project's own.
+-- Polling in a command: which request is due, and what it has come to (NFC Forum Digital Protocol). That a reset stands
+-- before the first request is this project's own.
 use Rattle.std.specs.Prelude.{List, [], ◌∷◌, ℕ, Option, Some, None, Result, Ok, Err}
 use Rattle.air_core.specs.Conversation.{Note, Lit, Got, Lost, Next, Over, LightUp}
 use Rattle.nfca_poll.specs.declared.fault.Picked.{Picked}
@@ -46,8 +46,8 @@ kind_by kind (Asks n) = Asks n
 kind_by kind (Told (Ok x) ns) = Told (Ok (kind x)) ns
 kind_by kind (Told (Err e) ns) = Told (Err e) ns
 
--- Selecting an NFC-V device: a reset, then the inventory of this identifier. What would be heard before the reset belongs to no
--- request: nothing is due then.
+-- Selecting an NFC-V device: a reset, then the inventory of this identifier. What would be heard before the reset
+-- belongs to no request: nothing is due then.
 abbrev pub pick_v : List ℕ → List Note → Followed SeenKind
 pick_v id [] = Asks LightUp
 pick_v id (Lit ∷ ns) = kind_by (λ x. seen.T5) (follows (picking_v id) ns)
@@ -59,8 +59,8 @@ abbrev pub selecting : DeviceId → List Note → Followed SeenKind
 selecting (A id) ns = kind_by seen_kind (follows (picking id) ns)
 selecting (V id) ns = pick_v id ns
 
--- Searching for all devices: those of NFC-A, in the order in which they are found, and then the inventory of NFC-V, which follows
--- in the lit field.
+-- Searching for all devices: those of NFC-A, in the order in which they are found, and then the inventory of NFC-V,
+-- which follows in the lit field.
 abbrev pub then_others : List Picked → Followed Vcrowd → Followed Everybody
 then_others cards (Asks n) = Asks n
 then_others cards (Told (Ok others) ns) = Told (Ok (record { cards = cards; others = others })) ns

@@ -18,8 +18,8 @@ pub record Powered (T : Type 0) : Type 0 where
   pub tag : T
   pub lit : Bool
 
--- What tags of one type are and do: what each holds, which of its blocks are locked, its step on commands, what it answers in the light
--- and what it is then, and what the dark and a lock leave of it.
+-- What tags of one type are and do: what each holds, which of its blocks are locked, its step on commands, what it
+-- answers in the light and what it is then, and what the dark and a lock leave of it.
 pub record LightMachine (T : Type 0) : Type 0 where
   pub tech : Tech
   pub identifier : T → List ℕ
@@ -32,7 +32,8 @@ pub record LightMachine (T : Type 0) : Type 0 where
   pub darkened : T → T
   pub locked : ℕ → T → T
 
--- A Type 3 tag loses nothing in the dark. That a Type 5 tag was told to stay quiet makes no difference to commands that name it.
+-- A Type 3 tag loses nothing in the dark. That a Type 5 tag was told to stay quiet makes no difference to commands that
+-- name it.
 abbrev pub light_three : LightMachine T3State
 light_three = record {
   tech = F;
@@ -78,8 +79,9 @@ module _ {T : Type 0} (m : LightMachine T) where
 abbrev pub powered_woken : {T : Type 0} → Powered T → Powered T
 powered_woken p = record { tag = p.tag; lit = true }
 
--- What is known of each such machine, whatever it holds and hears: its technology isn't NFC-A, and it answers in it; what names it and
--- its step on commands stay, in the dark too, where its store does; and it is silent to what is addressed to another identifier.
+-- What is known of each such machine, whatever it holds and hears: its technology isn't NFC-A, and it answers in it;
+-- what names it and its step on commands stay, in the dark too, where its store does; and it is silent to what is
+-- addressed to another identifier.
 pub record IsLightMachine {T : Type 0} (m : LightMachine T) : Type 0 where
   pub other_tech : m.tech ≡ A → ⊥
   pub own_tech : (t : T) (f g : Signal) → m.answer t f ≡ Some g → g.tech ≡ m.tech
@@ -88,4 +90,5 @@ pub record IsLightMachine {T : Type 0} (m : LightMachine T) : Type 0 where
   pub dark_named : (t : T) → m.identifier (m.darkened t) ≡ m.identifier t
   pub dark_commanded : (t : T) → m.commands (m.darkened t) ≡ m.commands t
   pub dark_store : (t : T) → m.store (m.darkened t) ≡ m.store t
-  pub ignores : (t : T) (other : List ℕ) (f : Signal) → IsAddressedIn m.tech other f → (other ≡ m.identifier t → ⊥) → m.answer t f ≡ None
+  pub ignores : (t : T) (other : List ℕ) (f : Signal) → IsAddressedIn m.tech other f → (other ≡ m.identifier t → ⊥)
+      → m.answer t f ≡ None

@@ -17,7 +17,8 @@ use Rattle.bench_devices.specs.Device.{device_store, how_of, size_of}
 abbrev pub AsksOf : Device → List Signal → Type 0
 AsksOf d commands = IsAsked (how_of d) (size_of d) (device_store d) commands
 
--- What a read finds, by the form of the store: its message, or a fault of the store. The other faults show nothing of it.
+-- What a read finds, by the form of the store: its message, or a fault of the store. The other faults show nothing of
+-- it.
 abbrev pub Shows : How → ℕ → List ℕ → Result Found ReadFault → Type 0
 Shows how size store (Ok found) = IsFound how size store found
 Shows how size store (Err faults.NotNdef) = IsStoreForm how size store (Faulty container.NotNdef)

@@ -1,6 +1,7 @@
 -- Finding the Type 3 tags of the bench: what is asked, and what is told of it (NFC Forum Digital Protocol; JIS X
 -- 6319-4). That a reset stands before the first request is this project's own.
-use Rattle.std.specs.Prelude.{◌≡◌, ◌↔◌, ◌⊎◌, ◌<◌, ◌≤◌, ℕ, List, [], ◌∷◌, filter_map, nat_eq, Bool, true, false, Option, Some, None, Result, Ok, Err}
+use Rattle.std.specs.Prelude.{◌≡◌, ◌↔◌, ◌⊎◌, ◌<◌, ◌≤◌, ℕ, List, [], ◌∷◌, filter_map, nat_eq, Bool, true, false, Option}
+use Rattle.std.specs.Prelude.{Some, None, Result, Ok, Err}
 use Rattle.std.specs.Cmp.Lexicographic.{pointwise}
 use Rattle.std.specs.List.{AllByRecursion, list_any}
 use Rattle.nfc_base.specs.Trace.{breaks, turns}

@@ -106,7 +106,8 @@ ShowsThreeWrite store locked message (Err fault.ReadOnly) = IsBarred store
 ShowsThreeWrite store locked message (Err (fault.TooLong most)) = IsTooSmall store message most
 ShowsThreeWrite store locked message (Err (fault.Refused status)) =
     (status ≡ block_locked) × Takes (attributes store) message
-    × (number : ℕ) × (number < all_puts message) × (get_or locked (put_at (attributes store) message number).block false ≡ true)
+    × (number : ℕ) × (number < all_puts message)
+    × (get_or locked (put_at (attributes store) message number).block false ≡ true)
 ShowsThreeWrite store locked message (Err e) = ⊥
 
 -- What is left then, of some stores that follow the old one: the new message; where it was refused the old store, or

@@ -6,7 +6,8 @@ ghost use Rattle.isodep_link.specs.Card as ends;
 ghost use Rattle.nfc_base.specs.Pieces.{most_busy, longest_extension};
 ghost use Rattle.nfca_poll.specs.Upper.{step_at};
 ghost use Rattle.bench_devices.specs.Cards.{card_now};
-ghost use Rattle.bench_devices.specs.Device.{said, on_link, how_of, blocks_of, device_locked, may_be_busy, device_busy, is_tag, may_be_read, memory_in};
+ghost use Rattle.bench_devices.specs.Device.{said, on_link, how_of, blocks_of, device_locked, may_be_busy, device_busy};
+ghost use Rattle.bench_devices.specs.Device.{is_tag, may_be_read, memory_in};
 
 use crate::peer::PeerUpper;
 use crate::powered::PoweredTag;
@@ -106,8 +107,8 @@ impl Upper for T2Upper {
     ghost laws = { t2_upper };
 }
 
-/// A Type 4 tag as the machine above a listener front. RATS opens a link to it, whose end takes every frame from then on and
-/// hands commands to the tag.
+/// A Type 4 tag as the machine above a listener front. RATS opens a link to it, whose end takes every frame from then
+/// on and hands commands to the tag.
 #[derive(Debug, Drop)]
 pub struct T4Upper {
     tag: T4Tag,
@@ -246,8 +247,10 @@ pub enum Device {
 }
 
 impl Listener for Device {
-    ghost use Rattle.bench_devices.specs.Device.{devices, device_id, device_store, device_ready, device_selected, device_commands};
-    ghost use Rattle.bench_devices.specs.laws.Standing.{bounded, own_tech, step_keeps, light_keeps, dark_keeps, light_selects, stays_selected, dark_rests, at_rest, ignores};
+    ghost use Rattle.bench_devices.specs.Device.{devices, device_id, device_store, device_ready, device_selected};
+    ghost use Rattle.bench_devices.specs.Device.{device_commands};
+    ghost use Rattle.bench_devices.specs.laws.Standing.{bounded, own_tech, step_keeps, light_keeps, dark_keeps};
+    ghost use Rattle.bench_devices.specs.laws.Standing.{light_selects, stays_selected, dark_rests, at_rest, ignores};
 
     ghost machine = { devices };
 

@@ -2,10 +2,14 @@
 
 ghost use Rattle.bench_devices.specs.Keeping.{DevicesStay, ImagesStay, AsideKeeps, OthersKeep};
 ghost use Rattle.bench_devices.specs.AnyFrame.{DevicesTidy, OnePeerHands, PeersStay, TagsHandNothing};
-ghost use Rattle.bench_devices.specs.Calm.{DevicesLink, CalmFinding, CalmCrowding, CalmSensing, CalmSelecting, CalmReading, CalmWriting, CalmUnasked, CalmReadingThree, CalmWritingThree, CalmUnaskedThree};
+ghost use Rattle.bench_devices.specs.Calm.{DevicesLink, CalmFinding, CalmCrowding, CalmSensing, CalmSelecting};
+ghost use Rattle.bench_devices.specs.Calm.{CalmReading, CalmWriting, CalmUnasked, CalmReadingThree, CalmWritingThree};
+ghost use Rattle.bench_devices.specs.Calm.{CalmUnaskedThree};
 ghost use Rattle.nfc_base.specs.Choosing.{Choosing};
 ghost use Rattle.far_air.specs.FarEnds.{FarTable};
-ghost use Rattle.bench_devices.specs.LinkLaws.{LinkAsks, PeerStands, OthersAside, SwapsLeave, ReadyInStep, LinkedInStep, InStepTakesRls, NoneAtRls, TurnLeaves, ReleaseLeaves, OpensFar, SelectsFar, FarLeaves};
+ghost use Rattle.bench_devices.specs.LinkLaws.{LinkAsks, PeerStands, OthersAside, SwapsLeave, ReadyInStep};
+ghost use Rattle.bench_devices.specs.LinkLaws.{LinkedInStep, InStepTakesRls, NoneAtRls, TurnLeaves, ReleaseLeaves};
+ghost use Rattle.bench_devices.specs.LinkLaws.{OpensFar, SelectsFar, FarLeaves};
 
 use nfc_base::Answerer;
 
@@ -40,9 +44,9 @@ pub fn peers_stay_unlinked()
     ensures no_three { CalmUnaskedThree }
 {}
 
-/// While a link is opened its peer is selected first, and then asked by ATR_REQ. What is said to a peer, while all others
-/// are aside, changes of every device its state alone, whatever becomes of it: one turn, swaps over a link, a release. A
-/// link that is ready is in step with the peer at its place.
+/// While a link is opened its peer is selected first, and then asked by ATR_REQ. What is said to a peer, while all
+/// others are aside, changes of every device its state alone, whatever becomes of it: one turn, swaps over a link, a
+/// release. A link that is ready is in step with the peer at its place.
 pub fn links_open<A: Answerer>()
     ensures asks { LinkAsks }
     ensures stands { PeerStands }
@@ -56,8 +60,9 @@ pub fn links_open<A: Answerer>()
     ensures release { ReleaseLeaves A.restarts A.steps A.stops A.is_stuck }
 {}
 
-/// The opening of a link, from the selection of its peer on, is a stretch of the world with far ends, at the peer's place.
-/// So is a selection alone, whatever it came to. What is said to a peer in that world leaves what it does on the field.
+/// The opening of a link, from the selection of its peer on, is a stretch of the world with far ends, at the peer's
+/// place. So is a selection alone, whatever it came to. What is said to a peer in that world leaves what it does on the
+/// field.
 pub fn links_far<F, A: Answerer>()
     ensures selects { (t : FarTable F) → SelectsFar t }
     ensures leaves { (t : FarTable F) → FarLeaves t }

@@ -3,12 +3,12 @@
 //! `device` holds Type 2 and Type 4 tags and peers under a listener front, and Type 3 and Type 5 tags, as listeners;
 //! `powered` those that light selects. `peer` is the
 //! machine of a peer, whose far end stands beside the field. `polling` selects the one with an identifier, `reading`
-//! reads the message of the tag that is selected, `writing` writes one to it, `opening` opens a link to the peer that is
-//! selected, `sweeping` searches for all, `crowding` for every Type 5 tag. No search but that of `sensing` hears a Type 3
-//! tag, which it selects too, and `threes` reads and writes.
-//! `specs/Polling.antt`, `specs/CardAsking.antt` and `specs/Sensing.antt` say which request is due in each of these,
-//! `specs/Answering.antt` how each may end and why, `specs/Phases.antt` what each does to the field, and
-//! `specs/Threes.antt` all this of a Type 3 tag. Nothing here knows of commands or answers.
+//! reads the message of the tag that is selected, `writing` writes one to it, `opening` opens a link to the peer that
+//! is selected, `sweeping` searches for all, `crowding` for every Type 5 tag. No search but that of `sensing` hears a
+//! Type 3 tag, which it selects too, and `threes` reads and writes. `specs/Polling.antt`, `specs/CardAsking.antt` and
+//! `specs/Sensing.antt` say which request is due in each of these, `specs/Answering.antt` how each may end and why,
+//! `specs/Phases.antt` what each does to the field, and `specs/Threes.antt` all this of a Type 3 tag. Nothing here
+//! knows of commands or answers.
 #![tactic(auto)]
 
 mod crowding;

@@ -40,8 +40,8 @@ fn id3_of(id: &Ident) -> [u8; 10]
     id3
 }
 
-/// A peer as the machine above a listener front. ATR_REQ opens a link to it, whose end takes every frame from then on. A
-/// frame that begins a link asks the far end to begin one too, and one that ends a payload hands it over.
+/// A peer as the machine above a listener front. ATR_REQ opens a link to it, whose end takes every frame from then on.
+/// A frame that begins a link asks the far end to begin one too, and one that ends a payload hands it over.
 #[derive(Debug, Drop)]
 pub struct PeerUpper {
     target: Target,

@@ -2,7 +2,8 @@
 
 ghost use Rattle.std.specs.Prelude.{◌≡◌, ◌<◌, false};
 ghost use Rattle.air_core.specs.Listening.{said_at};
-ghost use Rattle.bench_devices.specs.Powered.{LightMachine, powered_answer, powered_after, powered_woken, powered_darkened, powered_locked};
+ghost use Rattle.bench_devices.specs.Powered.{LightMachine, powered_answer, powered_after, powered_woken};
+ghost use Rattle.bench_devices.specs.Powered.{powered_darkened, powered_locked};
 
 use nfc_base::Frame;
 use std::marker::Model;

@@ -7,7 +7,8 @@ ghost use Rattle.bench_devices.specs.declared.device.Device.{Device as Placed};
 ghost use Rattle.bench_devices.specs.Device.{how_of, may_be_read};
 ghost use Rattle.bench_devices.specs.Phases.{Stands, ReadsAt, CutAt};
 ghost use Rattle.isodep_link.specs.IsoLinks.{seen_link};
-ghost use Rattle.bench_devices.specs.private.Linking.{seen_plain, StandsPlain, IsNew, IsNewLink, Linked, ReadsLinked, CutLinked};
+ghost use Rattle.bench_devices.specs.private.Linking.{seen_plain, StandsPlain, IsNew, IsNewLink, Linked, ReadsLinked};
+ghost use Rattle.bench_devices.specs.private.Linking.{CutLinked};
 
 use crate::device::Device;
 use air_core::{Field, PlainLink};

@@ -6,7 +6,8 @@ ghost use Rattle.bench_devices.specs.declared.device.Device.{Device as Placed};
 ghost use Rattle.bench_devices.specs.Device.{how_of, may_be_read};
 ghost use Rattle.bench_devices.specs.Phases.{Stands, WritesAt, CutAtWrite};
 ghost use Rattle.isodep_link.specs.IsoLinks.{seen_link};
-ghost use Rattle.bench_devices.specs.private.Linking.{seen_plain, StandsPlain, IsNew, IsNewLink, Linked, WritesLinked, CutLinkedWrite};
+ghost use Rattle.bench_devices.specs.private.Linking.{seen_plain, StandsPlain, IsNew, IsNewLink, Linked, WritesLinked};
+ghost use Rattle.bench_devices.specs.private.Linking.{CutLinkedWrite};
 
 use crate::device::Device;
 use air_core::{Field, PlainLink};
@@ -15,8 +16,8 @@ use std::alloc::Global;
 use tag_reader::How;
 use tag_writer::WriteFault;
 
-/// Writes a message to the selected tag at a place, in the place of the one that it holds, or tells why it isn't written.
-/// Whatever stops it, the tag holds the old message, the empty one or the new one.
+/// Writes a message to the selected tag at a place, in the place of the one that it holds, or tells why it isn't
+/// written. Whatever stops it, the tag holds the old message, the empty one or the new one.
 pub fn write(
     alloc: Global,
     field: &mut Field<Device>,
@@ -87,8 +88,10 @@ fn write_linked(alloc: Global, link: &mut IsoLink<Device>, message: &[u8]) -> Re
     requires tag { (d : Placed) × Linked d link.old.field.now link.old.place link.old.reader }
     requires fresh { IsNewLink (seen_link link.old) }
     ensures same { link.new.field.ghost_name ≡ link.old.field.ghost_name }
-    ensures tells { WritesLinked link.old.field.now link.old.place link.old.reader (moment link.new.field.now) message.now result }
-    ensures cut { CutLinkedWrite link.old.field.now link.old.place link.old.reader (moment link.new.field.now) message.now result }
+    ensures tells { WritesLinked link.old.field.now link.old.place link.old.reader (moment link.new.field.now)
+        message.now result }
+    ensures cut { CutLinkedWrite link.old.field.now link.old.place link.old.reader (moment link.new.field.now)
+        message.now result }
 {
     tag_writer::write(alloc, link, How::T4, message)
 }

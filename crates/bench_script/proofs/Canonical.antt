@@ -17,7 +17,8 @@ use Rattle.hex.proofs.HexLemmas.{length-encode_with, decode_of-encode_upper, dec
 use Rattle.nfc_base.specs.declared.event.Fate.{Fate}
 use Rattle.nfc_base.specs.declared.event.Fate.TheVariants.{Pass, Damage, Lose, Break}
 use Rattle.bench_script.specs.declared.command.Command.{Command}
-use Rattle.bench_script.specs.declared.command.Command.TheVariants.{Skip, Fates, PlaceT2, PlaceT3, PlaceT4, PlaceT5, PlacePeer, Lock, Busy, Offer, Remove, Dump, Inbox, Find, Crowd, Poll3, Read, Read3, Write, Write3, Link, Forge, Raw, Put, Get, Lookup, OnPut, OnGet, Puts, Unlink}
+use Rattle.bench_script.specs.declared.command.Command.TheVariants.{Skip, Fates, PlaceT2, PlaceT3, PlaceT4, PlaceT5, PlacePeer, Lock, Busy, Offer, Remove, Dump, Inbox, Find, Crowd, Poll3, Read, Read3}
+use Rattle.bench_script.specs.declared.command.Command.TheVariants.{Write, Write3, Link, Forge, Raw, Put, Get, Lookup, OnPut, OnGet, Puts, Unlink}
 use Rattle.bench_script.specs.declared.command.DeviceId.{DeviceId}
 use Rattle.bench_script.specs.declared.command.DeviceId.TheVariants.{A, V}
 use Rattle.nfc_base.specs.Signal.{Signal}
@@ -26,7 +27,8 @@ use Rattle.bench_script.specs.DeviceIds.{tech_for}
 use Rattle.bench_script.specs.declared.command.SlotPut.{SlotPut}
 use Rattle.bench_script.specs.declared.message.Msg.{Msg}
 use Rattle.bench_script.specs.declared.message.Msg.TheVariants.{Hex, Gen}
-use Rattle.bench_script.specs.Script.{words_of, SpelledBy, Spells, SpellsHex, SpellsIdent, SpellsIdV, SpellsId, SpellsCounted, SpellsMsg, SpellsFates, SpellsName, SpellsPayload, SpellEach, tail_text, SpellsFrame, SpellsSlotPut, fate_letter}
+use Rattle.bench_script.specs.Script.{words_of, SpelledBy, Spells, SpellsHex, SpellsIdent, SpellsIdV, SpellsId, SpellsCounted, SpellsMsg, SpellsFates, SpellsName, SpellsPayload, SpellEach, tail_text}
+use Rattle.bench_script.specs.Script.{SpellsFrame, SpellsSlotPut, fate_letter}
 use Rattle.std.proofs.lemmas.Bool.{ne_eqb}
 use Rattle.bench_script.proofs.Spelling.{size_small, spells_words, spells_one}
 use Rattle.bench_script.specs.Canonical.{hex_text, id_text, message_text, fates_text, frame_text, slot_put_text, row_text, canonical_words, canonical, IsReadAs}

@@ -7,7 +7,8 @@ use Rattle.nfc_base.specs.declared.event.Fate.{Fate}
 use Rattle.nfc_base.specs.declared.event.Fate.TheVariants.{Pass, Damage, Lose, Break}
 use Rattle.hex.proofs.HexLemmas.{decode_of-same}
 use Rattle.bench_script.specs.declared.command.Command.{Command}
-use Rattle.bench_script.specs.declared.command.Command.TheVariants.{Skip, Fates, PlaceT2, PlaceT3, PlaceT4, PlaceT5, PlacePeer, Lock, Busy, Offer, Remove, Dump, Inbox, Find, Crowd, Poll3, Read, Read3, Write, Write3, Link, Forge, Raw, Put, Get, Lookup, OnPut, OnGet, Puts, Unlink}
+use Rattle.bench_script.specs.declared.command.Command.TheVariants.{Skip, Fates, PlaceT2, PlaceT3, PlaceT4, PlaceT5, PlacePeer, Lock, Busy, Offer, Remove, Dump, Inbox, Find, Crowd, Poll3, Read, Read3}
+use Rattle.bench_script.specs.declared.command.Command.TheVariants.{Write, Write3, Link, Forge, Raw, Put, Get, Lookup, OnPut, OnGet, Puts, Unlink}
 use Rattle.bench_script.specs.declared.command.DeviceId.{DeviceId}
 use Rattle.bench_script.specs.declared.command.DeviceId.TheVariants.{A, V}
 use Rattle.nfc_base.specs.declared.frame.Tech.{Tech}
@@ -15,7 +16,10 @@ use Rattle.bench_script.specs.DeviceIds.{tech_for}
 use Rattle.bench_script.specs.declared.script.words.CommandName.{CommandName}
 use Rattle.bench_script.specs.declared.script.words.CommandName.TheVariants as names
 use Rattle.bench_script.specs.private.Words.{SpellsNoHex, name_text}
-use Rattle.bench_script.specs.Script.{words_of, is_skipped, SpellsHex, SpellsIdent, SpellsIdV, SpellsId, SpellsWithin, SpellsSize, SpellsCode, SpellsBlock, fate_letter, SpellsFates, SpellsMsg, SpellsPayload, SpellEach, SpellsFrame, SpellsSlotPut, SpelledBy, Spells, least_blocks, most_blocks, least_blocks_f, most_blocks_f, least_blocks_v, most_blocks_v, least_lr, most_lr, most_miu, least_rw, most_rw, least_limit, most_limit, least_busy, most_busy, least_times, most_times, least_acceptable, most_acceptable, least_named_slot, most_slot}
+use Rattle.bench_script.specs.Script.{words_of, is_skipped, SpellsHex, SpellsIdent, SpellsIdV, SpellsId, SpellsWithin, SpellsSize, SpellsCode, SpellsBlock, fate_letter, SpellsFates, SpellsMsg}
+use Rattle.bench_script.specs.Script.{SpellsPayload, SpellEach, SpellsFrame, SpellsSlotPut, SpelledBy, Spells, least_blocks, most_blocks, least_blocks_f, most_blocks_f, least_blocks_v, most_blocks_v}
+use Rattle.bench_script.specs.Script.{least_lr, most_lr, most_miu, least_rw, most_rw, least_limit, most_limit, least_busy, most_busy, least_times, most_times, least_acceptable, most_acceptable}
+use Rattle.bench_script.specs.Script.{least_named_slot, most_slot}
 use Rattle.llcp_pdu.specs.Wire.{least_miu}
 use Rattle.nfca_poll.specs.Ident.{IsIdent}
 use Rattle.t5t_tag.specs.Store.{IsBlockSize}

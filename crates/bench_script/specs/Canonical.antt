@@ -1,5 +1,5 @@
--- The canonical spelling of a command: of those that spell it, the one with upper-case digits, and the empty line of those
--- that ask for nothing.
+-- The canonical spelling of a command: of those that spell it, the one with upper-case digits, and the empty line of
+-- those that ask for nothing.
 use Rattle.std.specs.Prelude.{◌≡◌, ◌≢◌, ◌++◌, ℕ, List, [], ◌∷◌, map, codes, length, ◌==◌, if◌then◌else◌}
 use Rattle.std.specs.List.{All, flat_map, join_with_byte}
 use Rattle.std.specs.Fmt.{decimal}
@@ -7,7 +7,11 @@ use Rattle.hex.specs.Hex.{encode_upper}
 use Rattle.nfc_base.specs.Signal.{Signal}
 use Rattle.nfc_base.specs.declared.event.Fate.{Fate}
 use Rattle.bench_script.specs.declared.command.Command.{Command}
-use Rattle.bench_script.specs.declared.command.Command.TheVariants.{Skip, Fates, PlaceT2, PlaceT3, PlaceT4, PlaceT5, PlacePeer, Lock, Busy, Offer, Remove, Dump, Inbox, Find, Crowd, Poll3, Read, Read3, Write, Write3, Link, Forge, Raw, Put, Get, Lookup, OnPut, OnGet, Puts, Unlink}
+use Rattle.bench_script.specs.declared.command.Command.TheVariants.{Skip, Fates, PlaceT2, PlaceT3, PlaceT4, PlaceT5}
+use Rattle.bench_script.specs.declared.command.Command.TheVariants.{PlacePeer, Lock, Busy, Offer, Remove, Dump, Inbox}
+use Rattle.bench_script.specs.declared.command.Command.TheVariants.{Find, Crowd, Poll3, Read, Read3, Write, Write3}
+use Rattle.bench_script.specs.declared.command.Command.TheVariants.{Link, Forge, Raw, Put, Get, Lookup, OnPut, OnGet}
+use Rattle.bench_script.specs.declared.command.Command.TheVariants.{Puts, Unlink}
 use Rattle.bench_script.specs.declared.command.DeviceId.{DeviceId}
 use Rattle.bench_script.specs.declared.command.SlotPut.{SlotPut}
 use Rattle.bench_script.specs.declared.message.Msg.{Msg}
@@ -52,8 +56,10 @@ place_text kind id n = join_with_byte 32 (codes "place" ∷ kind ∷ encode_uppe
 abbrev pub canonical_words : Command → List (List ℕ)
 canonical_words Skip = []
 canonical_words (Fates fates) = codes "fates" ∷ fates_text fates ∷ []
-canonical_words (PlaceT2 id blocks head) = codes "place" ∷ codes "t2" ∷ encode_upper id ∷ decimal blocks ∷ hex_text head ∷ []
-canonical_words (PlaceT3 id blocks head) = codes "place" ∷ codes "t3" ∷ encode_upper id ∷ decimal blocks ∷ hex_text head ∷ []
+canonical_words (PlaceT2 id blocks head) = codes "place" ∷ codes "t2" ∷ encode_upper id ∷ decimal blocks ∷ hex_text head
+    ∷ []
+canonical_words (PlaceT3 id blocks head) = codes "place" ∷ codes "t3" ∷ encode_upper id ∷ decimal blocks ∷ hex_text head
+    ∷ []
 canonical_words (PlaceT4 id code container head) =
     codes "place" ∷ codes "t4" ∷ encode_upper id ∷ decimal code ∷ hex_text container ∷ hex_text head ∷ []
 canonical_words (PlaceT5 id blocks size head) =
@@ -80,7 +86,8 @@ canonical_words (Put message) = codes "put" ∷ message_text message ∷ []
 canonical_words (Get acceptable key) = codes "get" ∷ decimal acceptable ∷ hex_text key ∷ []
 canonical_words (Lookup name) = codes "lookup" ∷ name ∷ []
 canonical_words (OnPut slot message) = codes "on" ∷ decimal slot ∷ codes "put" ∷ message_text message ∷ []
-canonical_words (OnGet slot acceptable key) = codes "on" ∷ decimal slot ∷ codes "get" ∷ decimal acceptable ∷ hex_text key ∷ []
+canonical_words (OnGet slot acceptable key) = codes "on" ∷ decimal slot ∷ codes "get" ∷ decimal acceptable
+    ∷ hex_text key ∷ []
 canonical_words (Puts puts) = codes "puts" ∷ map slot_put_text puts
 canonical_words Unlink = codes "unlink" ∷ []
 

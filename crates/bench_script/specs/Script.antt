@@ -1,5 +1,6 @@
 -- How a script is written; the language is this project's own.
-use Rattle.std.specs.Prelude.{◌≡◌, ℕ, ◌^◌, ◌<◌, ◌≤◌, ◌⊎◌, ◌++◌, List, [], ◌∷◌, map, Bool, true, codes, length, ◌==◌, if◌then◌else◌, Ok}
+use Rattle.std.specs.Prelude.{◌≡◌, ℕ, ◌^◌, ◌<◌, ◌≤◌, ◌⊎◌, ◌++◌, List, [], ◌∷◌, map, Bool, true, codes, length, ◌==◌}
+use Rattle.std.specs.Prelude.{if◌then◌else◌, Ok}
 use Rattle.std.specs.Char.{is_ascii_graphic}
 use Rattle.std.specs.List.{onto_first, list_all}
 use Rattle.std.specs.Fmt.{decimal}
@@ -13,7 +14,11 @@ use Rattle.nfca_poll.specs.Ident.{IsIdent}
 use Rattle.t5t_tag.specs.Store.{IsBlockSize}
 use Rattle.llcp_pdu.specs.Wire.{least_miu}
 use Rattle.bench_script.specs.declared.command.Command.{Command}
-use Rattle.bench_script.specs.declared.command.Command.TheVariants.{Skip, Fates, PlaceT2, PlaceT3, PlaceT4, PlaceT5, PlacePeer, Lock, Busy, Offer, Remove, Dump, Inbox, Find, Crowd, Poll3, Read, Read3, Write, Write3, Link, Forge, Raw, Put, Get, Lookup, OnPut, OnGet, Puts, Unlink}
+use Rattle.bench_script.specs.declared.command.Command.TheVariants.{Skip, Fates, PlaceT2, PlaceT3, PlaceT4, PlaceT5}
+use Rattle.bench_script.specs.declared.command.Command.TheVariants.{PlacePeer, Lock, Busy, Offer, Remove, Dump, Inbox}
+use Rattle.bench_script.specs.declared.command.Command.TheVariants.{Find, Crowd, Poll3, Read, Read3, Write, Write3}
+use Rattle.bench_script.specs.declared.command.Command.TheVariants.{Link, Forge, Raw, Put, Get, Lookup, OnPut, OnGet}
+use Rattle.bench_script.specs.declared.command.Command.TheVariants.{Puts, Unlink}
 use Rattle.bench_script.specs.declared.command.DeviceId.{DeviceId}
 use Rattle.bench_script.specs.declared.command.DeviceId.TheVariants.{A, V}
 use Rattle.bench_script.specs.declared.command.SlotPut.{SlotPut}
@@ -47,7 +52,8 @@ abbrev pub SpellsId : List ℕ → DeviceId → Type 0
 SpellsId word (A id) = SpellsIdent word id
 SpellsId word (V id) = SpellsIdV word id
 
--- BLOCKS, LR, MIU, RW, LIMIT, COUNT, TIMES: a decimal number without leading zeros, from the first of these limits to the second
+-- BLOCKS, LR, MIU, RW, LIMIT, COUNT, TIMES: a decimal number without leading zeros, from the first of these limits to
+-- the second
 abbrev pub SpellsWithin : ℕ → ℕ → List ℕ → ℕ → Type 0
 SpellsWithin least most word n = (word ≡ decimal n) × (least ≤ n) × (n ≤ most)
 
@@ -92,8 +98,8 @@ most_lr = 3
 abbrev pub most_miu : ℕ
 most_miu = 2175
 
--- RW: how many I PDUs an end of a link can take that it hasn't acknowledged (NFC Forum LLCP; a window of 0, by which every
--- connection is refused, is left out)
+-- RW: how many I PDUs an end of a link can take that it hasn't acknowledged (NFC Forum LLCP; a window of 0, by which
+-- every connection is refused, is left out)
 abbrev pub least_rw : ℕ
 least_rw = 1
 
@@ -157,7 +163,8 @@ pub record SpellsName (word name : List ℕ) : Type 0 where
   pub few : length name ≤ longest_name
   pub graphic : list_all is_ascii_graphic name ≡ true
 
--- how many payloads of a link a line may have, and how many bytes each of these: 3 for the head of the longest PDU, and its information
+-- how many payloads of a link a line may have, and how many bytes each of these: 3 for the head of the longest PDU, and
+-- its information
 abbrev pub most_payloads : ℕ
 most_payloads = 16
 
@@ -178,7 +185,8 @@ SpellEach S (w ∷ ws) [] = ⊥
 SpellEach S (w ∷ ws) (p ∷ ps) = S w p × SpellEach S ws ps
 
 -- so many of them, from the first of these limits to the second
-pub record SpellRow {T : Type 0} (S : List ℕ → T → Type 0) (least most : ℕ) (words : List (List ℕ)) (values : List T) : Type 0 where
+pub record SpellRow {T : Type 0} (S : List ℕ → T → Type 0) (least most : ℕ) (words : List (List ℕ)) (values : List T)
+    : Type 0 where
   pub each : SpellEach S words values
   pub some : least ≤ length values
   pub few : length values ≤ most
@@ -260,10 +268,11 @@ abbrev pub is_skipped : List ℕ → Bool
 is_skipped [] = true
 is_skipped (b ∷ bs) = b == 35
 
--- `fates FATES`, `place t2 ID BLOCKS HEX`, `place t3 ID BLOCKS HEX`, `place t4 ID CODE HEX HEX`, `place t5 ID BLOCKS SIZE HEX`,
--- `place peer ID LR MIU RW LIMIT`, `lock ID BLOCK`, `busy ID COUNT TIMES`, `offer ID HEX HEX`, `remove ID`, `dump ID`, `inbox ID`,
--- `find`, `crowd`, `poll3`, `read ID`, `read3 ID`, `write ID MSG`, `write3 ID MSG`, `link ID MIU RW`, `forge ID HEX ..`,
--- `raw ID FRAME ..`, `put MSG`, `get N HEX`, `lookup NAME`, `on K put MSG`, `on K get N HEX`, `puts K:MSG ..` and `unlink`
+-- `fates FATES`, `place t2 ID BLOCKS HEX`, `place t3 ID BLOCKS HEX`, `place t4 ID CODE HEX HEX`, `place t5 ID BLOCKS
+-- SIZE HEX`, `place peer ID LR MIU RW LIMIT`, `lock ID BLOCK`, `busy ID COUNT TIMES`, `offer ID HEX HEX`, `remove ID`,
+-- `dump ID`, `inbox ID`, `find`, `crowd`, `poll3`, `read ID`, `read3 ID`, `write ID MSG`, `write3 ID MSG`, `link ID MIU
+-- RW`, `forge ID HEX ..`, `raw ID FRAME ..`, `put MSG`, `get N HEX`, `lookup NAME`, `on K put MSG`, `on K get N HEX`,
+-- `puts K:MSG ..` and `unlink`
 abbrev pub SpelledBy : List (List ℕ) → Command → Type 0
 SpelledBy ws Skip = ⊥
 SpelledBy ws (Fates fates) = (f : List ℕ) × (ws ≡ codes "fates" ∷ f ∷ []) × SpellsFates f fates
@@ -307,7 +316,8 @@ SpelledBy ws (Link id miu rw) =
 SpelledBy ws (Forge id payloads) =
     (i : List ℕ) × (hs : List (List ℕ)) × (ws ≡ codes "forge" ∷ i ∷ hs) × SpellsIdent i id × SpellPayloads hs payloads
 SpelledBy ws (Raw id frames) =
-    (i : List ℕ) × (fs : List (List ℕ)) × (ws ≡ codes "raw" ∷ i ∷ fs) × SpellsId i id × SpellFrames (tech_for id) fs frames
+    (i : List ℕ) × (fs : List (List ℕ)) × (ws ≡ codes "raw" ∷ i ∷ fs) × SpellsId i id
+    × SpellFrames (tech_for id) fs frames
 SpelledBy ws (Put message) = (m : List ℕ) × (ws ≡ codes "put" ∷ m ∷ []) × SpellsMsg m message
 SpelledBy ws (Get acceptable key) =
     (n k : List ℕ) × (ws ≡ codes "get" ∷ n ∷ k ∷ [])

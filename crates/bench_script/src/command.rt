@@ -9,8 +9,8 @@ use nfc_base::{Fate, Frame, Items, Tech};
 use nfca_poll::Ident;
 use std::alloc::{AllocError, Global};
 
-/// The identifier of a device: of NFC-A, or of Type 3 or Type 5, which have one space of 8 bytes. Those of Type 5 stand high byte
-/// first.
+/// The identifier of a device: of NFC-A, or of Type 3 or Type 5, which have one space of 8 bytes. Those of Type 5 stand
+/// high byte first.
 #[derive(Debug, Drop, PartialEq)]
 pub enum DeviceId {
     A(Ident),
@@ -121,8 +121,8 @@ pub enum Command {
         size: u8,
         head: Items<u8>,
     },
-    /// Puts a peer into the field: a target of NFC-DEP that takes frames of this LR code, with an LLCP link of this MIU and
-    /// window, and a SNEP server that takes messages of at most `limit` bytes.
+    /// Puts a peer into the field: a target of NFC-DEP that takes frames of this LR code, with an LLCP link of this MIU
+    /// and window, and a SNEP server that takes messages of at most `limit` bytes.
     PlacePeer {
         id: Ident,
         lr: u8,

@@ -21,8 +21,8 @@ use words::{
     small_word, three_words, two_words, within_word,
 };
 
-/// How many blocks a Type 2 tag that may be placed has at least, which are its header, and at most, since a read names a
-/// block in one byte (this project's limits).
+/// How many blocks a Type 2 tag that may be placed has at least, which are its header, and at most, since a read names
+/// a block in one byte (this project's limits).
 const LEAST_BLOCKS: u16 = 4;
 
 const MOST_BLOCKS: u16 = 256;

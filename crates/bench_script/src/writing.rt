@@ -4,7 +4,8 @@ ghost use Rattle.std.specs.Prelude.{◌≡◌, ◌≤◌, ◌++◌, ◌∷◌, �
 ghost use Rattle.std.specs.Fmt.{decimal};
 ghost use Rattle.hex.specs.Hex.{encode_upper};
 ghost use Rattle.bench_script.specs.Script.{fate_letter, Spells};
-ghost use Rattle.bench_script.specs.Canonical.{hex_text, id_text, message_text, fates_text, frame_text, slot_put_text, row_text, place_text, canonical, IsReadAs};
+ghost use Rattle.bench_script.specs.Canonical.{hex_text, id_text, message_text, fates_text, frame_text, slot_put_text};
+ghost use Rattle.bench_script.specs.Canonical.{row_text, place_text, canonical, IsReadAs};
 
 use crate::command::{Command, DeviceId, SlotPut};
 use crate::message::Msg;
@@ -13,8 +14,8 @@ use nfca_poll::Ident;
 use std::alloc::AllocError;
 
 impl Command {
-    /// Adds the command's canonical spelling to `target`: its digits are in upper case, and no LF ends it. It is written
-    /// into memory of its own first.
+    /// Adds the command's canonical spelling to `target`: its digits are in upper case, and no LF ends it. It is
+    /// written into memory of its own first.
     #[tactic(auto, using(crate::proofs::Canonical::read_back, crate::proofs::Canonical::none_shorter))]
     pub fn write_to(&self, target: &mut Vec<u8>) -> Result<(), AllocError>
         ensures ok { OnOk result (target.new.items ≡ target.old.items ++ canonical self.now) }

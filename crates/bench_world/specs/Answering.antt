@@ -92,14 +92,16 @@ TellsFault asking.Protocol answer = ⊥
 
 -- What a command answers that selects a tag, by how that ended and what was heard behind it. Where all that is asked of
 -- the tag was answered, the answer tells of the device.
-abbrev pub TagEnds : (Device → Answer → Type 0) → DeviceId → List Device → List Signal → Result SeenKind PollFault → List Note → Answer → Type 0
+abbrev pub TagEnds : (Device → Answer → Type 0) → DeviceId → List Device → List Signal → Result SeenKind PollFault
+    → List Note → Answer → Type 0
 TagEnds Tells id ds asked (Ok kind) behind answer =
     TellsBy kind (λ a. OfPlaced (λ d. Tells d a) (device_with (bytes_of id) ds)) TellsFault asked behind answer
 TagEnds Tells id ds asked (Err e) behind answer = poll_answer e ≡ Some answer
 
 -- The law of a command of a tag, over the devices that are placed: first it selects, then it asks what it asks of the
 -- tag. The field is lost exactly where a Break was used, and without noise no wait has six bad receptions.
-pub record TagTells (Tells : Device → Answer → Type 0) (id : DeviceId) (ds : List Device) (asked : List Signal) (events : List Event) (answer : Answer) : Type 0 where
+pub record TagTells (Tells : Device → Answer → Type 0) (id : DeviceId) (ds : List Device) (asked : List Signal)
+    (events : List Event) (answer : Answer) : Type 0 where
   pub polled : Result SeenKind PollFault
   pub behind : List Note
   pub selected : selecting id (receptions events) ≡ Told polled behind
@@ -108,7 +110,8 @@ pub record TagTells (Tells : Device → Answer → Type 0) (id : DeviceId) (ds :
   pub lost : (answer ≡ answers.FieldLost) ↔ (0 < breaks events)
   pub noisy : answer ≡ answers.SixBad → 0 < noise events
 
--- Nothing but want of memory ended what is asked of a selected tag: what was heard broke off no wait, and no Break was used.
+-- Nothing but want of memory ended what is asked of a selected tag: what was heard broke off no wait, and no Break was
+-- used.
 pub record IsUnbrokenTag (id : DeviceId) (asked : List Signal) (cut : List Event) : Type 0 where
   pub kind : SeenKind
   pub behind : List Note
@@ -152,8 +155,8 @@ abbrev pub sensed_answer : Result Fcrowd PollFault → Option Answer
 sensed_answer (Ok found) = Some (three_told found)
 sensed_answer (Err fault) = poll_answer fault
 
--- What a search for Type 3 tags answers, by what was heard of its turns, and why, by the tags that are placed. The field is lost
--- exactly where a Break was used.
+-- What a search for Type 3 tags answers, by what was heard of its turns, and why, by the tags that are placed. The
+-- field is lost exactly where a Break was used.
 pub record ThreesTell (ds : List Device) (events : List Event) (answer : Answer) : Type 0 where
   pub found : Result Fcrowd PollFault
   pub told : sensing (receptions events) ≡ Told found []

@@ -19,7 +19,8 @@ pub record Arrival : Type 0 where
 -- Payloads that came while the server gave these values, to an end that replied by these numbers.
 abbrev pub arrivals_of : List Offer → List ℕ → List (List ℕ) → List Arrival
 arrivals_of table ns [] = []
-arrivals_of table ns (p ∷ ps) = record { payload = p; count = first_number ns; table = table } ∷ arrivals_of table (later_numbers ns) ps
+arrivals_of table ns (p ∷ ps) = record { payload = p; count = first_number ns; table = table }
+    ∷ arrivals_of table (later_numbers ns) ps
 
 abbrev pub payloads_of : List Arrival → List (List ℕ)
 payloads_of arrivals = map (λ (a : Arrival). a.payload) arrivals
@@ -43,4 +44,5 @@ end_behind l (a ∷ more) = end_behind (end_after l a) more
 -- the PDUs that came, marked for the connections of one client's SAP
 abbrev pub arrival_marks : ℕ → FarEnd → List Arrival → List Mark
 arrival_marks c l [] = []
-arrival_marks c l (a ∷ more) = marks serving c (end_at l a) (brought (end_at l a) a.payload) ++ arrival_marks c (end_after l a) more
+arrival_marks c l (a ∷ more) = marks serving c (end_at l a) (brought (end_at l a) a.payload)
+    ++ arrival_marks c (end_after l a) more

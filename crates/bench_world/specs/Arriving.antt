@@ -1,5 +1,5 @@
--- What arrives at the peer of the open link in a command on it, or at that of a link that begins and ends in a command, and
--- how a link begins at its peer (NFCIP-1, ISO/IEC 18092; NFC Forum LLCP 1.3 and SNEP 1.0).
+-- What arrives at the peer of the open link in a command on it, or at that of a link that begins and ends in a command,
+-- and how a link begins at its peer (NFCIP-1, ISO/IEC 18092; NFC Forum LLCP 1.3 and SNEP 1.0).
 use Rattle.std.specs.Prelude.{◌≡◌, ℕ, List, Option, Some}
 use Rattle.nfc_base.specs.Choosing.{Choosing}
 use Rattle.nfc_base.specs.declared.event.Event.{Event}
@@ -14,16 +14,19 @@ use Rattle.bench_world.specs.World.{FarEnd}
 -- counted from the initiator's number: its end answered just these, by the entry's numbers of PDUs, and what its server
 -- accepted then it has accepted. Where the link is open still, the end stands so, and the frames are counted to the
 -- initiator's number.
-pub record ArrivesAt (l : OpenLink) (numbers : List (Option ℕ)) (counts : List ℕ) (before behind : List (Option FarEnd)) (events : List Event) (now : Option OpenLink) : Type 0 where
+pub record ArrivesAt (l : OpenLink) (numbers : List (Option ℕ)) (counts : List ℕ) (before behind : List (Option FarEnd))
+    (events : List Event) (now : Option OpenLink) : Type 0 where
   pub old : FarEnd
   pub stood : end_numbered l.peer numbers before ≡ Some old
   pub new : Choosing FarEnd
   pub arrives : Arrives l.initiator.core.number events (record { end = old; numbers = counts }) new
   pub accepted : OfEnd (λ end. end.service.accepted ≡ new.end.service.accepted) (end_numbered l.peer numbers behind)
-  pub going : IfLinked now (λ k. (end_numbered l.peer numbers behind ≡ Some new.end) × IsCountedTo l.initiator.core.number events k.initiator.core.number) (Unit {0})
+  pub going : IfLinked now (λ k. (end_numbered l.peer numbers behind ≡ Some new.end)
+      × IsCountedTo l.initiator.core.number events k.initiator.core.number) (Unit {0})
 
 -- So it is in a command that want of memory cut off, but for the last payload, at which the end may have stopped.
-pub record ArrivesCutAt (l : OpenLink) (numbers : List (Option ℕ)) (counts : List ℕ) (before behind : List (Option FarEnd)) (events : List Event) : Type 0 where
+pub record ArrivesCutAt (l : OpenLink) (numbers : List (Option ℕ)) (counts : List ℕ)
+    (before behind : List (Option FarEnd)) (events : List Event) : Type 0 where
   pub old : FarEnd
   pub stood : end_numbered l.peer numbers before ≡ Some old
   pub new : Choosing FarEnd
@@ -33,12 +36,14 @@ pub record ArrivesCutAt (l : OpenLink) (numbers : List (Option ℕ)) (counts : L
 -- a link begins at the end of its peer, with the general bytes that were said to it
 abbrev pub BeginsAt : OpenLink → List ℕ → List (Option ℕ) → List (Option FarEnd) → List (Option FarEnd) → Type 0
 BeginsAt l general numbers before behind =
-    OfEnd (λ old. end_numbered l.peer numbers behind ≡ Some (restarted serving old general)) (end_numbered l.peer numbers before)
+    OfEnd (λ old. end_numbered l.peer numbers behind ≡ Some (restarted serving old general))
+    (end_numbered l.peer numbers before)
 
--- A link to the peer with a number began, with these general bytes, and is over: from these far ends to those the frames of
--- the same events brought payloads to it, counted from PNI 0. Its end, which began the link, answered just these, by the
--- entry's numbers of PDUs, and what its server accepted then it has accepted.
-pub record ArrivesWithin (peer : ℕ) (general : List ℕ) (numbers : List (Option ℕ)) (counts : List ℕ) (before behind : List (Option FarEnd)) (events : List Event) : Type 0 where
+-- A link to the peer with a number began, with these general bytes, and is over: from these far ends to those the
+-- frames of the same events brought payloads to it, counted from PNI 0. Its end, which began the link, answered just
+-- these, by the entry's numbers of PDUs, and what its server accepted then it has accepted.
+pub record ArrivesWithin (peer : ℕ) (general : List ℕ) (numbers : List (Option ℕ)) (counts : List ℕ)
+    (before behind : List (Option FarEnd)) (events : List Event) : Type 0 where
   pub old : FarEnd
   pub stood : end_numbered peer numbers before ≡ Some old
   pub new : Choosing FarEnd
@@ -46,7 +51,8 @@ pub record ArrivesWithin (peer : ℕ) (general : List ℕ) (numbers : List (Opti
   pub accepted : OfEnd (λ end. end.service.accepted ≡ new.end.service.accepted) (end_numbered peer numbers behind)
 
 -- So it is in a command that want of memory cut off, but for the last payload, at which the end may have stopped.
-pub record ArrivesCutWithin (peer : ℕ) (general : List ℕ) (numbers : List (Option ℕ)) (counts : List ℕ) (before behind : List (Option FarEnd)) (events : List Event) : Type 0 where
+pub record ArrivesCutWithin (peer : ℕ) (general : List ℕ) (numbers : List (Option ℕ)) (counts : List ℕ)
+    (before behind : List (Option FarEnd)) (events : List Event) : Type 0 where
   pub old : FarEnd
   pub stood : end_numbered peer numbers before ≡ Some old
   pub new : Choosing FarEnd

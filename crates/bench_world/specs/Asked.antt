@@ -1,5 +1,5 @@
--- What each command asks on the open link (NFC Forum LLCP 1.3 and SNEP 1.0; the commands are this project's own). All that is said of
--- such commands goes by this.
+-- What each command asks on the open link (NFC Forum LLCP 1.3 and SNEP 1.0; the commands are this project's own). All
+-- that is said of such commands goes by this.
 use Rattle.std.specs.Prelude.{List, map, Option, Some, None, IsSome}
 use Rattle.snep_core.specs.Talk.{client_sap, sap_of_slot}
 use Rattle.link_calls.specs.Asking.{LinkAsking, Does, Closes, Finding, Getting, Putting, put_from}

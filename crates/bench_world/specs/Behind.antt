@@ -21,7 +21,8 @@ use Rattle.bench_world.specs.declared.entry.Answer.TheVariants as answers
 use Rattle.bench_world.specs.declared.entry.Entry.{Entry}
 use Rattle.bench_world.specs.Legal.{State, Given, LegalStep, EachLegal}
 
--- A command may change what the tag with an identifier holds, or takes it away: frames that are sent as they are reach each device. A later command that may adds its case.
+-- A command may change what the tag with an identifier holds, or takes it away: frames that are sent as they are reach
+-- each device. A later command that may adds its case.
 abbrev pub Touches : DeviceId → Command → Type 0
 Touches id (Remove other) = bytes_of other ≡ bytes_of id
 Touches id (Write other message) = bytes_of other ≡ bytes_of id
@@ -60,20 +61,23 @@ pub record WritesThenReads (id : DeviceId) (tag : Device) (m : Msg) (answer : An
 -- Behind a success the read tells the message that was written.
 abbrev pub WrittenIsRead : Type 0
 WrittenIsRead =
-    (id : DeviceId) (tag : Device) (m : Msg) (message : List ℕ) → WritesThenReads id tag m answers.Written message → message ≡ message_of m
+    (id : DeviceId) (tag : Device) (m : Msg) (message : List ℕ) → WritesThenReads id tag m answers.Written message
+    → message ≡ message_of m
 
 -- Whatever the write answered, the read tells the message that the tag held before, the empty one or the new one.
 abbrev pub OneOfThreeIsRead : Type 0
 OneOfThreeIsRead =
-    (id : DeviceId) (tag : Device) (m : Msg) (answer : Answer) (old message : List ℕ) → WritesThenReads id tag m answer message
-    → IsStoreForm (how_of tag) (size_of tag) (device_store tag) (Message old) → (message ≡ old) ⊎ (message ≡ []) ⊎ (message ≡ message_of m)
+    (id : DeviceId) (tag : Device) (m : Msg) (answer : Answer) (old message : List ℕ)
+    → WritesThenReads id tag m answer message
+    → IsStoreForm (how_of tag) (size_of tag) (device_store tag) (Message old)
+    → (message ≡ old) ⊎ (message ≡ []) ⊎ (message ≡ message_of m)
 
 -- so many transmissions pass, and the next is a Break
 abbrev pub breaking : ℕ → List Fate
 breaking passes = replicate passes Pass ++ Break ∷ []
 
--- A tag is placed, and where no fate is left a write of it is a success. The same write is broken off: fewer transmissions pass
--- than it has, and the next is a Break. Then the tag is read.
+-- A tag is placed, and where no fate is left a write of it is a success. The same write is broken off: fewer
+-- transmissions pass than it has, and the next is a Break. Then the tag is read.
 pub record BreaksThenReads (id : DeviceId) (tag : Device) (m : Msg) (read : Entry) : Type 0 where
   pub before : State
   pub placed : device_with (bytes_of id) before.world.field.listeners ≡ Some tag
@@ -90,7 +94,12 @@ pub record BreaksThenReads (id : DeviceId) (tag : Device) (m : Msg) (read : Entr
   pub broken : Entry
   pub broken_given : Given
   pub broken_after : State
-  pub breaks : LegalStep (record { world = before.world; queue = breaking passes; peers = before.peers; link = before.link }) broken_given broken broken_after
+  pub breaks : LegalStep (record {
+    world = before.world;
+    queue = breaking passes;
+    peers = before.peers;
+    link = before.link;
+  }) broken_given broken broken_after
   pub again : broken.command ≡ Write id m
   pub read_given : Given
   pub after : State
@@ -108,7 +117,8 @@ pub record TellsOneOfThree (tag : Device) (new : List ℕ) (read : Entry) : Type
 
 -- Wherever the write is broken off, a message is told then: the old one, the empty one, or the new one.
 abbrev pub BrokenIsRead : Type 0
-BrokenIsRead = (id : DeviceId) (tag : Device) (m : Msg) (read : Entry) → BreaksThenReads id tag m read → TellsOneOfThree tag (message_of m) read
+BrokenIsRead = (id : DeviceId) (tag : Device) (m : Msg) (read : Entry) → BreaksThenReads id tag m read
+    → TellsOneOfThree tag (message_of m) read
 
 -- An entry tells the message that a tag holds.
 pub record TellsHeld (tag : Device) (read : Entry) : Type 0 where
@@ -119,4 +129,5 @@ pub record TellsHeld (tag : Device) (read : Entry) : Type 0 where
 
 -- Broken off at its first transmission a write changed nothing: the message that the tag held before is told.
 abbrev pub FirstBrokenIsRead : Type 0
-FirstBrokenIsRead = (id : DeviceId) (tag : Device) (m : Msg) (read : Entry) (r : BreaksThenReads id tag m read) → r.passes ≡ 0 → TellsHeld tag read
+FirstBrokenIsRead = (id : DeviceId) (tag : Device) (m : Msg) (read : Entry) (r : BreaksThenReads id tag m read)
+    → r.passes ≡ 0 → TellsHeld tag read

@@ -14,8 +14,8 @@ use Rattle.bench_world.specs.Arrivals.{Arrival, arrival_marks, end_at, end_behin
 use Rattle.bench_world.specs.World.{FarEnd}
 use Rattle.bench_world.specs.Stories.{Opener, ByLink, ByForge, ByRaw, Story}
 
--- What holds of a story by its payloads. Where frames were sent as they are, any may have been left out or sent again by hand, so
--- of such a link the steps alone are said.
+-- What holds of a story by its payloads. Where frames were sent as they are, any may have been left out or sent again
+-- by hand, so of such a link the steps alone are said.
 abbrev pub IfOpenedBy : Opener → Type 0 → Type 0
 IfOpenedBy ByLink P = P
 IfOpenedBy ByForge P = P
@@ -49,20 +49,23 @@ module _ {begun : FarEnd} {arrivals : List Arrival} (p : PlaceInArrivals begun a
 -- What was accepted until there is what the PDUs until there put, and the first of all that was accepted.
 pub record AcceptsUntil (y : Story) (p : PlaceInArrivals y.begun y.arrivals) : Type 0 where
   pub puts : (c : ℕ) → c < sap_count
-      → AcceptsPuts c y.begun.service.limit y.begun.miu (marks_there p c) y.begun.service.accepted (end_there p).service.accepted
+      → AcceptsPuts c y.begun.service.limit y.begun.miu (marks_there p c) y.begun.service.accepted
+      (end_there p).service.accepted
   pub front : IsPrefix (end_there p).service.accepted (y.begun.service.accepted ++ y.gained)
 
 -- The peer's end began the link, and then answered just the payloads that arrived, counted from PNI 0, each by its
 -- number and with the values that its server gave then. What the server accepted then is what it had, and what its list
 -- gained. So of each client's SAP what it gained is what the units of its connections in these payloads put, joined in
--- order; and so it is at each place on the way: messages stand in the order in which the units stand that complete them.
+-- order; and so it is at each place on the way: messages stand in the order in which the units stand that complete
+-- them.
 pub record IsByPayloads (y : Story) : Type 0 where
   pub old : FarEnd
   pub begins : y.begun ≡ restarted serving old y.general
   pub payloads : payloads_of y.arrivals ≡ brought 0 y.events
   pub accepted : (end_behind y.begun y.arrivals).service.accepted ≡ y.begun.service.accepted ++ y.gained
   pub puts : (c : ℕ) → c < sap_count
-      → AllPut y.begun.service.limit (units c y.begun.miu None (arrival_marks c y.begun y.arrivals)) (accepted_from c y.gained)
+      → AllPut y.begun.service.limit (units c y.begun.miu None (arrival_marks c y.begun y.arrivals))
+      (accepted_from c y.gained)
   pub order : (p : PlaceInArrivals y.begun y.arrivals) → AcceptsUntil y p
 
 -- What the units put begins with these messages.
@@ -72,8 +75,8 @@ pub record PutsAtLeast (limit : ℕ) (us : List (List (List ℕ))) (messages : L
   pub rest : List (List ℕ)
   pub split : all ≡ messages ++ rest
 
--- Where want of memory cut a command off the peer's end may have stopped at the last payload that arrived. What its list
--- gained is the first of what the payloads put, and has at least what all payloads but the last put.
+-- Where want of memory cut a command off the peer's end may have stopped at the last payload that arrived. What its
+-- list gained is the first of what the payloads put, and has at least what all payloads but the last put.
 pub record IsFrontOfPayloads (y : Story) : Type 0 where
   pub old : FarEnd
   pub begins : y.begun ≡ restarted serving old y.general
@@ -82,4 +85,5 @@ pub record IsFrontOfPayloads (y : Story) : Type 0 where
   pub least : (before : List Arrival) (last : Arrival) → y.arrivals ≡ before ++ last ∷ []
       → IsPrefix (end_behind y.begun before).service.accepted (y.begun.service.accepted ++ y.gained)
   pub puts : (c : ℕ) → c < sap_count
-      → PutsAtLeast y.begun.service.limit (units c y.begun.miu None (arrival_marks c y.begun y.arrivals)) (accepted_from c y.gained)
+      → PutsAtLeast y.begun.service.limit (units c y.begun.miu None (arrival_marks c y.begun y.arrivals))
+      (accepted_from c y.gained)

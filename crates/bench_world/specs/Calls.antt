@@ -1,6 +1,7 @@
 -- What is answered to the commands on the open link, by what was heard and by the peer's server (NFC Forum SNEP 1.0,
 -- LLCP 1.3; the words of the answers are this project's own).
-use Rattle.std.specs.Prelude.{◌≡◌, ◌↔◌, ◌⊎◌, ℕ, ◌<◌, ◌≤◌, List, [], ◌∷◌, ◌++◌, length, map, true, false, if◌then◌else◌, Option, Some, None}
+use Rattle.std.specs.Prelude.{◌≡◌, ◌↔◌, ◌⊎◌, ℕ, ◌<◌, ◌≤◌, List, [], ◌∷◌, ◌++◌, length, map, true, false, if◌then◌else◌}
+use Rattle.std.specs.Prelude.{Option, Some, None}
 use Rattle.nfc_base.specs.LinkTurns.{bad_receptions}
 use Rattle.nfc_base.specs.Trace.{noise, breaks}
 use Rattle.nfc_base.specs.declared.event.Event.{Event}
@@ -80,8 +81,8 @@ abbrev pub told_job : Job → Option Answer
 told_job (Ended e) = Some (told_ending e)
 told_job _ = None
 
--- What is told of messages that were put at once, each by the job of its slot, in their order: of one alone whether it was taken, and of
--- several which were. A message that isn't answered is told nothing of, and so is none of them then.
+-- What is told of messages that were put at once, each by the job of its slot, in their order: of one alone whether it
+-- was taken, and of several which were. A message that isn't answered is told nothing of, and so is none of them then.
 abbrev pub told_one : Outcome → Option Answer
 told_one outcomes.Success = Some answers.Success
 told_one outcomes.Rejected = Some answers.Reject
@@ -154,7 +155,8 @@ slots_behind call jobs slots = slots
 
 -- the link behind a call: it is open where the call came to its end, and stands so then
 abbrev pub link_behind : OpenLink → Call → CallStanding → Option OpenLink
-link_behind l call (Comes (Ends jobs client) i) = Some (record { peer = l.peer; initiator = i; client = client; slots = slots_behind call jobs l.slots })
+link_behind l call (Comes (Ends jobs client) i) = Some
+    (record { peer = l.peer; initiator = i; client = client; slots = slots_behind call jobs l.slots })
 link_behind l call _ = None
 
 -- behind a call on the link that was open, unless it was cut off
@@ -181,8 +183,8 @@ abbrev pub OfEnd : (FarEnd → Type 0) → Option FarEnd → Type 0
 OfEnd Is None = ⊥
 OfEnd Is (Some end) = Is end
 
--- How messages that were put at once are told of, in their order: one alone by its answer, several each by what the answer says of
--- it; and none where the link ended.
+-- How messages that were put at once are told of, in their order: one alone by its answer, several each by what the
+-- answer says of it; and none where the link ended.
 abbrev pub told_put : Answer → Told
 told_put answers.Success = Success
 told_put answers.Reject = Rejected
@@ -212,7 +214,8 @@ MessageAdds m limit Unanswered xs = (xs ≡ []) ⊎ ((length m ≤ limit) × (xs
 
 abbrev pub EachAdds : List SlotMessage → ℕ → List Told → List Received → Type 0
 EachAdds [] limit [] more = Unit {0}
-EachAdds (w ∷ ws) limit (t ∷ ts) more = MessageAdds w.message limit t (accepted_from (sap_of_slot w.slot) more) × EachAdds ws limit ts more
+EachAdds (w ∷ ws) limit (t ∷ ts) more = MessageAdds w.message limit t (accepted_from (sap_of_slot w.slot) more)
+    × EachAdds ws limit ts more
 EachAdds _ limit _ more = ⊥
 
 -- What messages that were put at once add, told of so: of the SAP of each what it adds, and from no other SAP anything.
@@ -223,11 +226,15 @@ pub record AllAdd (ws : List SlotMessage) (end : FarEnd) (told : List Told) (mor
 -- What a get tells: of a key within the limit the value that the table has, of at most so many bytes, or why the table
 -- refuses it, by the first cause.
 abbrev pub GetTells : ℕ → List ℕ → FarEnd → Answer → Type 0
-GetTells most key end (answers.Value v) = (length key ≤ end.service.limit) × (value_of key end.service.table ≡ Some v) × (length v ≤ most)
+GetTells most key end (answers.Value v) = (length key ≤ end.service.limit) × (value_of key end.service.table ≡ Some v)
+    × (length v ≤ most)
 GetTells most key end answers.Reject = end.service.limit < length key
-GetTells most key end answers.NotImplemented = (length key ≤ end.service.limit) × RefusesGet end.service.table most key faults.NotImplemented
-GetTells most key end answers.NoValue = (length key ≤ end.service.limit) × RefusesGet end.service.table most key faults.NotFound
-GetTells most key end answers.Excess = (length key ≤ end.service.limit) × RefusesGet end.service.table most key faults.Excess
+GetTells most key end answers.NotImplemented = (length key ≤ end.service.limit)
+    × RefusesGet end.service.table most key faults.NotImplemented
+GetTells most key end answers.NoValue = (length key ≤ end.service.limit)
+    × RefusesGet end.service.table most key faults.NotFound
+GetTells most key end answers.Excess = (length key ≤ end.service.limit)
+    × RefusesGet end.service.table most key faults.Excess
 GetTells most key end (answers.LinkEnded loss) = Unit {0}
 GetTells most key end _ = ⊥
 
@@ -237,8 +244,8 @@ LookupTells name end (answers.Sap n) = n ≡ found end.bound name
 LookupTells name end (answers.LinkEnded loss) = Unit {0}
 LookupTells name end _ = ⊥
 
--- What a call adds to what the peer's server accepted, by its answer; where it was cut off, at most this. Only what is put adds
--- something.
+-- What a call adds to what the peer's server accepted, by its answer; where it was cut off, at most this. Only what is
+-- put adds something.
 abbrev pub CallAdds : Call → FarEnd → Answer → List Received → Type 0
 CallAdds (Putting ws) end answer more = AllAdd ws end (told_each ws answer) more
 CallAdds call end answer more = more ≡ []
@@ -277,4 +284,5 @@ accepting_if more (Some l) = Some (accepting more l)
 abbrev pub with_accepted : List Received → ℕ → List (Option ℕ) → List (Option FarEnd) → List (Option FarEnd)
 with_accepted more n [] os = os
 with_accepted more n (p ∷ ps) [] = []
-with_accepted more n (p ∷ ps) (o ∷ os) = if is_number n p then accepting_if more o ∷ os else o ∷ with_accepted more n ps os
+with_accepted more n (p ∷ ps) (o ∷ os) = if is_number n p then accepting_if more o ∷ os
+    else o ∷ with_accepted more n ps os

@@ -61,46 +61,56 @@ HadSixBad seen.Peer asked ns = ⊥
 pub record IsUndisturbed (id : DeviceId) (asked : List Signal) (es : List Event) : Type 0 where
   pub lit : breaks es ≡ 0
   pub round : IsQuietOnce id es
-  pub waits : (kind : SeenKind) (behind : List Note) → selecting id (receptions es) ≡ Told (Ok kind) behind → HadSixBad kind asked behind → ⊥
+  pub waits : (kind : SeenKind) (behind : List Note) → selecting id (receptions es) ≡ Told (Ok kind) behind
+      → HadSixBad kind asked behind → ⊥
 
 -- So a read of a placed tag tells what its store holds: the message, or the fault that the store has.
 abbrev pub ReadsComplete : Type 0
 ReadsComplete =
-    (s t : State) (g : Given) (e : Entry) (id : DeviceId) (d : Device) → LegalStep s g e t → e.command ≡ Read id → device_with (bytes_of id) s.world.field.listeners ≡ Some d
+    (s t : State) (g : Given) (e : Entry) (id : DeviceId) (d : Device) → LegalStep s g e t → e.command ≡ Read id
+    → device_with (bytes_of id) s.world.field.listeners ≡ Some d
     → IsNamed id d → IsUndisturbed id g.asked e.events → TellsOf d e.answer
 
 -- A write of a placed tag tells what it comes to by what the tag holds and by its locked blocks.
 abbrev pub WritesComplete : Type 0
 WritesComplete =
-    (s t : State) (g : Given) (e : Entry) (id : DeviceId) (m : Msg) (d : Device) → LegalStep s g e t → e.command ≡ Write id m → device_with (bytes_of id) s.world.field.listeners ≡ Some d
+    (s t : State) (g : Given) (e : Entry) (id : DeviceId) (m : Msg) (d : Device) → LegalStep s g e t
+    → e.command ≡ Write id m → device_with (bytes_of id) s.world.field.listeners ≡ Some d
     → IsNamed id d → IsUndisturbed id g.asked e.events → TellsWrite (message_of m) d e.answer
 
 -- So a message is written where the tag holds one, is free to write, has room for it, takes updates of two bytes, and
 -- refuses none of the writes.
 abbrev pub ShownIsWritten : Type 0
 ShownIsWritten =
-    (s t : State) (g : Given) (e : Entry) (id : DeviceId) (m : Msg) (d : Device) → LegalStep s g e t → e.command ≡ Write id m → device_with (bytes_of id) s.world.field.listeners ≡ Some d
-    → may_be_read d ≡ true → IsNamed id d → IsUndisturbed id g.asked e.events → ShowsWrite (message_of m) d (Ok tt) → e.answer ≡ answers.Written
+    (s t : State) (g : Given) (e : Entry) (id : DeviceId) (m : Msg) (d : Device) → LegalStep s g e t
+    → e.command ≡ Write id m → device_with (bytes_of id) s.world.field.listeners ≡ Some d
+    → may_be_read d ≡ true → IsNamed id d → IsUndisturbed id g.asked e.events → ShowsWrite (message_of m) d (Ok tt)
+    → e.answer ≡ answers.Written
 
--- A tag takes a message, which it has room for in the place of the one that it holds, and none of the blocks that are written for it
--- is locked. Of a Type 4 tag none is, and one update may bring two bytes.
+-- A tag takes a message, which it has room for in the place of the one that it holds, and none of the blocks that are
+-- written for it is locked. Of a Type 4 tag none is, and one update may bring two bytes.
 abbrev pub MayBeWritten : List ℕ → Device → Type 0
-MayBeWritten message d = (may_be_read d ≡ true) × IsFreeFor (how_of d) (size_of d) (device_locks d) (device_store d) message
+MayBeWritten message d = (may_be_read d ≡ true) × IsFreeFor (how_of d) (size_of d) (device_locks d) (device_store d)
+    message
 
 -- It refuses none then, so the message is written, wherever the lines of a script lead.
 abbrev pub ValidIsWritten : Type 0
 ValidIsWritten =
-    (lines : List (List ℕ)) (numbers : List Joins) (journal : List Entry) (s t : State) (g : Given) (e : Entry) (id : DeviceId) (m : Msg) (d : Device) → LeadsTo lines numbers journal s
-    → LegalStep s g e t → e.command ≡ Write id m → device_with (bytes_of id) s.world.field.listeners ≡ Some d → IsNamed id d → IsUndisturbed id g.asked e.events
+    (lines : List (List ℕ)) (numbers : List Joins) (journal : List Entry) (s t : State) (g : Given) (e : Entry)
+    (id : DeviceId) (m : Msg) (d : Device) → LeadsTo lines numbers journal s
+    → LegalStep s g e t → e.command ≡ Write id m → device_with (bytes_of id) s.world.field.listeners ≡ Some d
+    → IsNamed id d → IsUndisturbed id g.asked e.events
     → MayBeWritten (message_of m) d → e.answer ≡ answers.Written
 
 -- A search lists the whole field: all NFC-A devices in crowd order, and the true Type 5 result.
 abbrev pub whole_field : List Device → Answer
-whole_field ds = answers.Found (seen_all (record { cards = crowd_of ds; others = others_of ds })) (is_crowd (others_of ds))
+whole_field ds = answers.Found (seen_all (record { cards = crowd_of ds; others = others_of ds }))
+    (is_crowd (others_of ds))
 
 abbrev pub FindsComplete : Type 0
 FindsComplete =
-    (s t : State) (g : Given) (e : Entry) → LegalStep s g e t → e.command ≡ Find → breaks e.events ≡ 0 → (AreDisturbed (rounds e.events) → ⊥)
+    (s t : State) (g : Given) (e : Entry) → LegalStep s g e t → e.command ≡ Find → breaks e.events ≡ 0
+    → (AreDisturbed (rounds e.events) → ⊥)
     → noisy_tries inventory_all e.events < tries → e.answer ≡ whole_field s.world.field.listeners
 
 -- All Type 5 tags that are placed are told, ascending by their identifiers as numbers, and so each once.
@@ -122,12 +132,14 @@ pub record HasQuietPass (events : List Event) : Type 0 where
 -- A search for Type 5 tags that keeps the field and has such a pass lists all of them.
 abbrev pub TagsComplete : Type 0
 TagsComplete =
-    (s t : State) (g : Given) (e : Entry) → LegalStep s g e t → e.command ≡ Crowd → breaks e.events ≡ 0 → HasQuietPass e.events
+    (s t : State) (g : Given) (e : Entry) → LegalStep s g e t → e.command ≡ Crowd → breaks e.events ≡ 0
+    → HasQuietPass e.events
     → TellsTags s.world.field.listeners e.answer
 
--- A search for Type 3 tags that keeps the field, and of which one try met no noise, tells of all that are placed: none, the one, or
--- that there are several.
+-- A search for Type 3 tags that keeps the field, and of which one try met no noise, tells of all that are placed: none,
+-- the one, or that there are several.
 abbrev pub ThreesComplete : Type 0
 ThreesComplete =
-    (s t : State) (g : Given) (e : Entry) → LegalStep s g e t → e.command ≡ Poll3 → breaks e.events ≡ 0 → noisy_tries sensf_req e.events < tries
+    (s t : State) (g : Given) (e : Entry) → LegalStep s g e t → e.command ≡ Poll3 → breaks e.events ≡ 0
+    → noisy_tries sensf_req e.events < tries
     → e.answer ≡ three_told (sensed_of s.world.field.listeners)

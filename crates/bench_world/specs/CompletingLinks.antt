@@ -1,7 +1,8 @@
 -- What commands of links answer where noise doesn't keep them from it: no Break was used, no wait had six bad
 -- receptions, and where a link is opened, polling had one round without noise (why a server refuses, and what a peer
 -- tells of a name, is from NFC Forum SNEP 1.0 and LLCP 1.3; rounds and six receptions are this project's own).
-use Rattle.std.specs.Prelude.{◌≡◌, ◌↔◌, ℕ, ◌+◌, ◌≤◌, nat_lt, not, List, [], ◌∷◌, length, map, true, false, Option, Some, None, Ok, if◌then◌else◌}
+use Rattle.std.specs.Prelude.{◌≡◌, ◌↔◌, ℕ, ◌+◌, ◌≤◌, nat_lt, not, List, [], ◌∷◌, length, map, true, false, Option, Some}
+use Rattle.std.specs.Prelude.{None, Ok, if◌then◌else◌}
 use Rattle.nfc_base.specs.Signal.{Signal}
 use Rattle.nfc_base.specs.Trace.{breaks}
 use Rattle.nfc_base.specs.declared.event.Event.{Event}
@@ -59,7 +60,8 @@ table_answer most key [] = answers.NotImplemented
 table_answer most key (o ∷ os) = value_answer most (value_of key (o ∷ os))
 
 abbrev pub get_answer : ℕ → List ℕ → FarEnd → Answer
-get_answer most key end = if nat_lt end.service.limit (length key) then answers.Reject else table_answer most key end.service.table
+get_answer most key end = if nat_lt end.service.limit (length key) then answers.Reject
+    else table_answer most key end.service.table
 
 -- A wait of a command on the open link had six bad receptions, by these numbers of PDUs and what happened.
 abbrev pub HadSixBadBy : Option LinkAsking → OpenLink → List ℕ → List Event → Type 0
@@ -84,8 +86,10 @@ peer_answer Closes end = answers.Unlinked
 -- Exactly so what is asked is answered as the peer answers it, and the link is closed.
 abbrev pub IsComplete : LinkAsking → Type 0
 IsComplete asked =
-    (s t : State) (g : Given) (e : Entry) (l : OpenLink) → LegalStep s g e t → asked_on_link e.command ≡ Some asked → s.link ≡ Some l
-    → OfEnd (λ end. (e.answer ≡ peer_answer asked end) ↔ IsUndisturbedOn l g.joins.own e.command e.events) (peer_end_of s l)
+    (s t : State) (g : Given) (e : Entry) (l : OpenLink) → LegalStep s g e t → asked_on_link e.command ≡ Some asked
+    → s.link ≡ Some l
+    → OfEnd (λ end. (e.answer ≡ peer_answer asked end) ↔ IsUndisturbedOn l g.joins.own e.command e.events)
+    (peer_end_of s l)
 
 abbrev pub AskedComplete : Type 0
 AskedComplete = (asked : LinkAsking) → IsComplete asked
@@ -115,7 +119,8 @@ EachWithin limit (w ∷ ws) = (length w.message ≤ limit) × EachWithin limit w
 -- key has a value, which isn't longer than the client takes. A lookup and a close always are.
 abbrev pub IsValidAsking : LinkAsking → FarEnd → Type 0
 IsValidAsking (Does (Putting ws)) end = EachWithin end.service.limit ws
-IsValidAsking (Does (Getting sap most key)) end = (length key ≤ end.service.limit) × (value : List ℕ) × (value_of key end.service.table ≡ Some value) × (length value ≤ most)
+IsValidAsking (Does (Getting sap most key)) end = (length key ≤ end.service.limit) × (value : List ℕ)
+    × (value_of key end.service.table ≡ Some value) × (length value ≤ most)
 IsValidAsking (Does (Finding name)) end = Unit {0}
 IsValidAsking Closes end = Unit {0}
 
@@ -135,7 +140,8 @@ all_taken (w ∷ v ∷ ws) = answers.Puts (map (λ (x : SlotMessage). record { s
 -- what a valid one is answered
 abbrev pub IsOkAsking : LinkAsking → FarEnd → Answer → Type 0
 IsOkAsking (Does (Putting ws)) end answer = answer ≡ all_taken ws
-IsOkAsking (Does (Getting sap most key)) end answer = (value : List ℕ) × (value_of key end.service.table ≡ Some value) × (answer ≡ answers.Value value)
+IsOkAsking (Does (Getting sap most key)) end answer =
+    (value : List ℕ) × (value_of key end.service.table ≡ Some value) × (answer ≡ answers.Value value)
 IsOkAsking (Does (Finding name)) end answer = answer ≡ answers.Sap (found end.bound name)
 IsOkAsking Closes end answer = answer ≡ answers.Unlinked
 
@@ -148,7 +154,8 @@ IsOk end c answer = IsOkBy (asked_on_link c) end answer
 
 abbrev pub ValidIsOk : Type 0
 ValidIsOk =
-    (s t : State) (g : Given) (e : Entry) (l : OpenLink) (end : FarEnd) → LegalStep s g e t → s.link ≡ Some l → peer_end_of s l ≡ Some end → IsValid end e.command
+    (s t : State) (g : Given) (e : Entry) (l : OpenLink) (end : FarEnd) → LegalStep s g e t → s.link ≡ Some l
+    → peer_end_of s l ≡ Some end → IsValid end e.command
     → IsUndisturbedOn l g.joins.own e.command e.events → IsOk end e.command e.answer
 
 -- Nothing kept the opening of a link, by an initiator of this MIU, from its answer. Once a peer is selected, ATR_REQ
@@ -156,7 +163,8 @@ ValidIsOk =
 pub record IsUndisturbedOpening (id : List ℕ) (miu : ℕ) (es : List Event) : Type 0 where
   pub lit : breaks es ≡ 0
   pub round : IsQuietOnce (A id) es
-  pub waits : (behind : List Note) (left : List Signal) → selecting (A id) (receptions es) ≡ Told (Ok Peer) behind → stand 0 (atr_frame (own_general miu) ∷ []) behind ≡ Broken asking.SixBad left → ⊥
+  pub waits : (behind : List Note) (left : List Signal) → selecting (A id) (receptions es) ≡ Told (Ok Peer) behind
+      → stand 0 (atr_frame (own_general miu) ∷ []) behind ≡ Broken asking.SixBad left → ⊥
 
 -- what opening a link to a device is answered, by the number that the link has
 abbrev pub link_answer : ℕ → Device → Answer
@@ -171,12 +179,16 @@ pub record OpensPlaced (s : State) (e : Entry) (id : List ℕ) (miu window : ℕ
 -- So it is answered wherever the lines of a script lead.
 abbrev pub LinkingsComplete : Type 0
 LinkingsComplete =
-    (lines : List (List ℕ)) (numbers : List Joins) (journal : List Entry) (s t : State) (g : Given) (e : Entry) (id : List ℕ) (miu window : ℕ) (d : Device) → LeadsTo lines numbers journal s → LegalStep s g e t
-    → OpensPlaced s e id miu window d → IsUndisturbedOpening id miu e.events → e.answer ≡ link_answer (length s.peers.links + 1) d
+    (lines : List (List ℕ)) (numbers : List Joins) (journal : List Entry) (s t : State) (g : Given) (e : Entry)
+    (id : List ℕ) (miu window : ℕ) (d : Device) → LeadsTo lines numbers journal s → LegalStep s g e t
+    → OpensPlaced s e id miu window d → IsUndisturbedOpening id miu e.events
+    → e.answer ≡ link_answer (length s.peers.links + 1) d
 
 -- Whatever the noise, of a tag alone it's told that it has none, and to a peer alone a link is opened, which has the
 -- next number.
 abbrev pub KindsTold : Type 0
 KindsTold =
-    (lines : List (List ℕ)) (numbers : List Joins) (journal : List Entry) (s t : State) (g : Given) (e : Entry) (id : List ℕ) (miu window : ℕ) (d : Device) → LeadsTo lines numbers journal s → LegalStep s g e t
-    → OpensPlaced s e id miu window d → (e.answer ≡ answers.WrongKind → is_tag d ≡ true) × ((n : ℕ) → e.answer ≡ answers.Linked n → (is_tag d ≡ false) × (n ≡ length s.peers.links + 1))
+    (lines : List (List ℕ)) (numbers : List Joins) (journal : List Entry) (s t : State) (g : Given) (e : Entry)
+    (id : List ℕ) (miu window : ℕ) (d : Device) → LeadsTo lines numbers journal s → LegalStep s g e t
+    → OpensPlaced s e id miu window d → (e.answer ≡ answers.WrongKind → is_tag d ≡ true)
+    × ((n : ℕ) → e.answer ≡ answers.Linked n → (is_tag d ≡ false) × (n ≡ length s.peers.links + 1))

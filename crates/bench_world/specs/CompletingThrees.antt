@@ -1,5 +1,6 @@
--- What a read and a write of a Type 3 tag answer where noise doesn't keep them from it, and what a read tells behind a write: no Break was
--- used, no wait had six bad receptions, and one try of polling had no noise (tries and six receptions are this project's own).
+-- What a read and a write of a Type 3 tag answer where noise doesn't keep them from it, and what a read tells behind a
+-- write: no Break was used, no wait had six bad receptions, and one try of polling had no noise (tries and six
+-- receptions are this project's own).
 use Rattle.std.specs.Prelude.{◌≡◌, ◌⊎◌, ◌<◌, ℕ, List, Bool, Some, Ok}
 use Rattle.nfc_base.specs.Signal.{Signal}
 use Rattle.nfc_base.specs.Trace.{breaks}
@@ -45,37 +46,44 @@ pub record IsPlaced3 (s : State) (id : List ℕ) (d : Device) : Type 0 where
   pub found : device_with id s.world.field.listeners ≡ Some d
   pub kind : kind_of d ≡ T3Kind
 
--- So a read of it tells what its store holds: the message, that a write wasn't finished, or the fault that the store has.
+-- So a read of it tells what its store holds: the message, that a write wasn't finished, or the fault that the store
+-- has.
 abbrev pub ThreesRead : Type 0
 ThreesRead =
-    (s t : State) (g : Given) (e : Entry) (id : List ℕ) (d : Device) → LegalStep s g e t → e.command ≡ Read3 id → IsPlaced3 s id d
+    (s t : State) (g : Given) (e : Entry) (id : List ℕ) (d : Device) → LegalStep s g e t → e.command ≡ Read3 id
+    → IsPlaced3 s id d
     → IsUndisturbed3 id g.asked e.events → TellsRead3 d e.answer
 
 -- A write tells what it comes to by what the tag holds and by its locked blocks, ...
 abbrev pub ThreesWrite : Type 0
 ThreesWrite =
-    (s t : State) (g : Given) (e : Entry) (id : List ℕ) (m : Msg) (d : Device) → LegalStep s g e t → e.command ≡ Write3 id m → IsPlaced3 s id d
+    (s t : State) (g : Given) (e : Entry) (id : List ℕ) (m : Msg) (d : Device) → LegalStep s g e t
+    → e.command ≡ Write3 id m → IsPlaced3 s id d
     → IsUndisturbed3 id g.asked e.events → TellsWrite3 (message_of m) d e.answer
 
 -- ... which is a success where the tag takes the message and no block of the write is locked.
 abbrev pub ThreesWritten : Type 0
 ThreesWritten =
-    (s t : State) (g : Given) (e : Entry) (id : List ℕ) (m : Msg) (d : Device) → LegalStep s g e t → e.command ≡ Write3 id m → IsPlaced3 s id d
+    (s t : State) (g : Given) (e : Entry) (id : List ℕ) (m : Msg) (d : Device) → LegalStep s g e t
+    → e.command ≡ Write3 id m → IsPlaced3 s id d
     → IsUndisturbed3 id g.asked e.events → ShowsThreeWriteOf (message_of m) d (Ok tt) → e.answer ≡ answers.Written
 
 -- All this where no fate is left but Pass.
 abbrev pub QuietThreesRead : Type 0
 QuietThreesRead =
-    (s t : State) (g : Given) (e : Entry) (id : List ℕ) (d : Device) → LegalStep s g e t → e.command ≡ Read3 id → IsPlaced3 s id d → AllPass s.queue → TellsRead3 d e.answer
+    (s t : State) (g : Given) (e : Entry) (id : List ℕ) (d : Device) → LegalStep s g e t → e.command ≡ Read3 id
+    → IsPlaced3 s id d → AllPass s.queue → TellsRead3 d e.answer
 
 abbrev pub QuietThreesWrite : Type 0
 QuietThreesWrite =
-    (s t : State) (g : Given) (e : Entry) (id : List ℕ) (m : Msg) (d : Device) → LegalStep s g e t → e.command ≡ Write3 id m → IsPlaced3 s id d → AllPass s.queue
+    (s t : State) (g : Given) (e : Entry) (id : List ℕ) (m : Msg) (d : Device) → LegalStep s g e t
+    → e.command ≡ Write3 id m → IsPlaced3 s id d → AllPass s.queue
     → TellsWrite3 (message_of m) d e.answer
 
 abbrev pub QuietThreesWritten : Type 0
 QuietThreesWritten =
-    (s t : State) (g : Given) (e : Entry) (id : List ℕ) (m : Msg) (d : Device) → LegalStep s g e t → e.command ≡ Write3 id m → IsPlaced3 s id d → AllPass s.queue
+    (s t : State) (g : Given) (e : Entry) (id : List ℕ) (m : Msg) (d : Device) → LegalStep s g e t
+    → e.command ≡ Write3 id m → IsPlaced3 s id d → AllPass s.queue
     → ShowsThreeWriteOf (message_of m) d (Ok tt) → e.answer ≡ answers.Written
 
 -- A Type 3 tag is placed; a write of it has an answer, then come entries that leave it alone, and then a read of it.
@@ -103,25 +111,30 @@ pub record Writes3ThenReads (id : List ℕ) (tag : Device) (m : Msg) (answer tol
 -- Behind a success the read tells the message that was written, and never that the write wasn't finished.
 abbrev pub Written3IsRead : Type 0
 Written3IsRead =
-    (id : List ℕ) (tag : Device) (m : Msg) (message : List ℕ) (writable : Bool) → Writes3ThenReads id tag m answers.Written (answers.Message message writable) → message ≡ message_of m
+    (id : List ℕ) (tag : Device) (m : Msg) (message : List ℕ) (writable : Bool)
+    → Writes3ThenReads id tag m answers.Written (answers.Message message writable) → message ≡ message_of m
 
 abbrev pub Written3IsWhole : Type 0
-Written3IsWhole = (id : List ℕ) (tag : Device) (m : Msg) → Writes3ThenReads id tag m answers.Written answers.Unfinished → ⊥
+Written3IsWhole = (id : List ℕ) (tag : Device) (m : Msg) → Writes3ThenReads id tag m answers.Written answers.Unfinished
+    → ⊥
 
 -- Where noise doesn't keep the read from it, it tells that message, ...
 abbrev pub Undisturbed3IsRead : Type 0
 Undisturbed3IsRead =
-    (id : List ℕ) (tag : Device) (m : Msg) (told : Answer) (r : Writes3ThenReads id tag m answers.Written told) → IsUndisturbed3 id r.read_given.asked r.read.events
+    (id : List ℕ) (tag : Device) (m : Msg) (told : Answer) (r : Writes3ThenReads id tag m answers.Written told)
+    → IsUndisturbed3 id r.read_given.asked r.read.events
     → (writable : Bool) × (told ≡ answers.Message (message_of m) writable)
 
 -- ... and so it does where no fate is left but Pass.
 abbrev pub Quiet3IsRead : Type 0
 Quiet3IsRead =
-    (id : List ℕ) (tag : Device) (m : Msg) (told : Answer) (r : Writes3ThenReads id tag m answers.Written told) → AllPass r.later.queue
+    (id : List ℕ) (tag : Device) (m : Msg) (told : Answer) (r : Writes3ThenReads id tag m answers.Written told)
+    → AllPass r.later.queue
     → (writable : Bool) × (told ≡ answers.Message (message_of m) writable)
 
 -- Whatever the write answered, a message that the read tells is the one that the tag held before, or the new one.
 abbrev pub OneOfTwo3IsRead : Type 0
 OneOfTwo3IsRead =
-    (id : List ℕ) (tag : Device) (m : Msg) (answer : Answer) (message : List ℕ) (writable : Bool) → Writes3ThenReads id tag m answer (answers.Message message writable)
+    (id : List ℕ) (tag : Device) (m : Msg) (answer : Answer) (message : List ℕ) (writable : Bool)
+    → Writes3ThenReads id tag m answer (answers.Message message writable)
     → IsT3Form (device_store tag) (Message message) ⊎ (message ≡ message_of m)

@@ -1,5 +1,5 @@
--- What following the events of a command does: the bench is told what happened, and says how far that may have happened (this
--- project's own; which entries a bench may have is said in Legal.antt).
+-- What following the events of a command does: the bench is told what happened, and says how far that may have happened
+-- (this project's own; which entries a bench may have is said in Legal.antt).
 use Rattle.std.specs.Prelude.{◌≡◌, ◌≢◌, ℕ, suc, ◌<◌, ◌≤◌, List, [], ◌∷◌, ◌++◌, length, take, drop, true, false}
 use Rattle.nfc_base.specs.declared.event.Event.{Event}
 use Rattle.bench_script.specs.declared.command.Command.{Command}
@@ -42,8 +42,8 @@ Records (Front good) old new entry = new ≡ old
 abbrev pub MayFollow : State → Command → Type 0
 MayFollow s c = Accepts s c × MayShow s c
 
--- All of the events may have happened: the journal gained one entry of this line and command with just these, by some numbers of
--- PDUs, and the machines are in the state that its step leads to.
+-- All of the events may have happened: the journal gained one entry of this line and command with just these, by some
+-- numbers of PDUs, and the machines are in the state that its step leads to.
 pub record FollowsAll (old new : Benched) (line : ℕ) (c : Command) (events : List Event) : Type 0 where
   pub sound : old.spoiled ≡ false
   pub between : IsBetweenCommands old.state
@@ -60,14 +60,16 @@ pub record FollowsAll (old new : Benched) (line : ℕ) (c : Command) (events : L
 -- no entry of this command begins with these events, by whatever numbers, from whatever state is alike to this one; ...
 abbrev pub NoneBegins : State → Command → List Event → Type 0
 NoneBegins s c es =
-    (t u : State) (g : Given) (e : Entry) (rest : List Event) → Alike s t → LegalStep t g e u → e.command ≡ c → e.events ≡ es ++ rest → ⊥
+    (t u : State) (g : Given) (e : Entry) (rest : List Event) → Alike s t → LegalStep t g e u → e.command ≡ c
+    → e.events ≡ es ++ rest → ⊥
 
 -- ... and none has just these
 abbrev pub NoneHas : State → Command → List Event → Type 0
-NoneHas s c es = (t u : State) (g : Given) (e : Entry) → Alike s t → LegalStep t g e u → e.command ≡ c → e.events ≡ es → ⊥
+NoneHas s c es = (t u : State) (g : Given) (e : Entry) → Alike s t → LegalStep t g e u → e.command ≡ c → e.events ≡ es
+    → ⊥
 
--- The events aren't those of an entry: the first `good` of them begin one, no more of them do, and none has just these. The journal
--- is as before, and the machines are in the state that the step of an entry leads to which begins so.
+-- The events aren't those of an entry: the first `good` of them begin one, no more of them do, and none has just these.
+-- The journal is as before, and the machines are in the state that the step of an entry leads to which begins so.
 pub record FollowsFront (old new : Benched) (line : ℕ) (c : Command) (events : List Event) (good : ℕ) : Type 0 where
   pub sound : old.spoiled ≡ false
   pub between : IsBetweenCommands old.state
@@ -100,8 +102,8 @@ abbrev pub Follows : Followed → Benched → Benched → ℕ → Command → Li
 Follows f old new line Skip events = FollowsNone f old new events
 Follows f old new line c events = FollowsOne f old new line c events
 
--- Want of memory spoiled the bench: the journal stays, and of the command there is at most a front of its step, by some numbers,
--- whose events are gone. What tags hold is left as an unfinished command leaves it.
+-- Want of memory spoiled the bench: the journal stays, and of the command there is at most a front of its step, by some
+-- numbers, whose events are gone. What tags hold is left as an unfinished command leaves it.
 pub record SpoilsTrack (old new : Benched) (c : Command) : Type 0 where
   pub state : State
   pub joins : Joins

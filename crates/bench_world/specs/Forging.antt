@@ -1,6 +1,7 @@
--- What is due while payloads that were written by hand are sent to a peer over a link of their own, and what is answered
--- (NFCIP-1, ISO/IEC 18092; NFC Forum Digital Protocol; that such a link has a number is this project's own).
-use Rattle.std.specs.Prelude.{◌≡◌, ◌↔◌, ℕ, suc, ◌<◌, nat_lt, List, [], ◌∷◌, Bool, true, false, if◌then◌else◌, Option, Some, None, Result, Ok, Err}
+-- What is due while payloads that were written by hand are sent to a peer over a link of their own, and what is
+-- answered (NFCIP-1, ISO/IEC 18092; NFC Forum Digital Protocol; that such a link has a number is this project's own).
+use Rattle.std.specs.Prelude.{◌≡◌, ◌↔◌, ℕ, suc, ◌<◌, nat_lt, List, [], ◌∷◌, Bool, true, false, if◌then◌else◌, Option}
+use Rattle.std.specs.Prelude.{Some, None, Result, Ok, Err}
 use Rattle.std.specs.List.{AllByRecursion}
 use Rattle.nfc_base.specs.Trace.{breaks, noise}
 use Rattle.nfc_base.specs.declared.carrier.EndCause.{EndCause}
@@ -37,8 +38,8 @@ use Rattle.bench_world.specs.Linking.{IsFieldLost, own_general}
 abbrev pub forged_general : List ℕ
 forged_general = own_general least_miu
 
--- Where it stands once a peer is selected: ATR_REQ had so many bad receptions; its wait ended by a fault; a link is open,
--- over which the payloads are exchanged; or something was heard that belongs to none of this.
+-- Where it stands once a peer is selected: ATR_REQ had so many bad receptions; its wait ended by a fault; a link is
+-- open, over which the payloads are exchanged; or something was heard that belongs to none of this.
 pub data Forging : Type 0 where
   Activates : ℕ → Forging
   Unlinked : EndCause → Forging
@@ -129,10 +130,11 @@ ForgeEnds payloads (Ok seen.T4) behind answer = answer ≡ answers.WrongKind
 ForgeEnds payloads (Ok seen.T5) behind answer = answer ≡ answers.WrongKind
 ForgeEnds payloads (Err e) behind answer = poll_answer e ≡ Some answer
 
--- The law of the answer, over the devices that are placed: first a device is selected, then it is asked for a link, and the
--- payloads are exchanged. The field is lost exactly where a Break was used, and without noise no wait has six bad
+-- The law of the answer, over the devices that are placed: first a device is selected, then it is asked for a link, and
+-- the payloads are exchanged. The field is lost exactly where a Break was used, and without noise no wait has six bad
 -- receptions: each note behind the selection is a whole answer.
-pub record ForgeTells (id : List ℕ) (ds : List Device) (payloads : List (List ℕ)) (events : List Event) (answer : Answer) : Type 0 where
+pub record ForgeTells (id : List ℕ) (ds : List Device) (payloads : List (List ℕ)) (events : List Event)
+    (answer : Answer) : Type 0 where
   pub polled : Result SeenKind PollFault
   pub behind : List Note
   pub selected : selecting (ids.A id) (receptions events) ≡ Told polled behind

@@ -1,5 +1,5 @@
--- What want of memory leaves of a command: nothing was done, there is a front of its step, or the end of a link's peer stopped
--- behind one, at a payload that was handed over (that an end stops so is this project's own).
+-- What want of memory leaves of a command: nothing was done, there is a front of its step, or the end of a link's peer
+-- stopped behind one, at a payload that was handed over (that an end stops so is this project's own).
 use Rattle.std.specs.Prelude.{◌≡◌, ◌⊎◌, ℕ, zero, suc, get_or, List, [], ◌∷◌, ◌++◌, Option, Some, None, Bool, true}
 use Rattle.nfc_base.specs.declared.event.Event.{Event}
 use Rattle.nfc_base.specs.declared.event.Event.TheVariants.{Request}
@@ -24,7 +24,8 @@ use Rattle.bench_world.specs.Calls.{OfEnd, PeerMayAdd, with_accepted}
 use Rattle.bench_world.specs.Arriving.{ArrivesCutAt, ArrivesCutWithin}
 use Rattle.bench_world.specs.Forging.{forged_general, opens_link}
 use Rattle.bench_world.specs.Rawing.{raw_opens}
-use Rattle.bench_world.specs.Legal.{State, Joins, Given, IsPeerPlaced, unlinked, due, peers_forged, peer_end_of, FrontOf, CutShort}
+use Rattle.bench_world.specs.Legal.{State, Joins, Given, IsPeerPlaced, unlinked, due, peers_forged, peer_end_of}
+use Rattle.bench_world.specs.Legal.{FrontOf, CutShort}
 
 -- What a command may add at most to what the peer's server accepted, at which its end stopped.
 abbrev pub HaltAdded : Option LinkAsking → FarEnd → List Accepted → Type 0
@@ -34,9 +35,9 @@ HaltAdded (Some asked) end more = PeerMayAdd asked end more
 abbrev pub HaltAdds : Command → FarEnd → List Accepted → Type 0
 HaltAdds c end more = HaltAdded (asked_on_link c) end more
 
--- What stays where the peer's end stopped. All that stays of a device does, each beside the peer is aside still, and has
--- a link at most while it is active; the server accepted at most what the call adds, and nothing else of a far end that
--- stays changed. The open link is gone, and its range goes to what was accepted.
+-- What stays where the peer's end stopped. All that stays of a device does, each beside the peer is aside still, and
+-- has a link at most while it is active; the server accepted at most what the call adds, and nothing else of a far end
+-- that stays changed. The open link is gone, and its range goes to what was accepted.
 pub record HaltLeaves (s : State) (c : Command) (l : OpenLink) (t : State) : Type 0 where
   pub talk : (own : List ℕ) × (place : ℕ) × TalkLeaves own place s.world.field.listeners t.world.field.listeners
   pub more : List Accepted
@@ -65,8 +66,8 @@ pub record PeerHalts (joins : Joins) (s : State) (c : Command) (cut : List Event
   pub leaves : HaltLeaves s c on t
   pub came : ArrivesCutAt on s.peers.numbers given.joins.far s.world.fars t.world.fars cut
 
--- What stays where the end of a peer stopped to which payloads were sent over a link of their own: likewise, and that link
--- has its range.
+-- What stays where the end of a peer stopped to which payloads were sent over a link of their own: likewise, and that
+-- link has its range.
 pub record ForgeHaltLeaves (s : State) (peer : ℕ) (t : State) : Type 0 where
   pub talk : (own : List ℕ) × (place : ℕ) × TalkLeaves own place s.world.field.listeners t.world.field.listeners
   pub more : List Accepted
@@ -74,8 +75,8 @@ pub record ForgeHaltLeaves (s : State) (peer : ℕ) (t : State) : Type 0 where
   pub peers : t.peers ≡ with_link_within peer s.world.fars t.world.fars (unlinked s).peers
   pub link : t.link ≡ None
 
--- Behind a front in which a link was opened a request that was due passed, and as it handed a payload over the peer's end
--- stopped for want of memory: nothing came back.
+-- Behind a front in which a link was opened a request that was due passed, and as it handed a payload over the peer's
+-- end stopped for want of memory: nothing came back.
 pub record ForgeHalts (joins : Joins) (s : State) (c : Command) (cut : List Event) (t : State) : Type 0 where
   pub id : List ℕ
   pub payloads : List (List ℕ)
@@ -97,17 +98,18 @@ pub record ForgeHalts (joins : Joins) (s : State) (c : Command) (cut : List Even
   pub leaves : ForgeHaltLeaves s peer t
   pub came : ArrivesCutWithin peer forged_general s.peers.numbers given.joins.far s.world.fars t.world.fars cut
 
--- the devices where the end of the peer at a place stopped at a frame: those before it and it made their steps, it without a reply,
--- and those behind it didn't
+-- the devices where the end of the peer at a place stopped at a frame: those before it and it made their steps, it
+-- without a reply, and those behind it didn't
 abbrev pub halted_at : ℕ → Signal → List Device → List Device
 halted_at place f [] = []
 halted_at zero f (d ∷ ds) = stepped_by devices d f None ∷ ds
 halted_at (suc place) f (d ∷ ds) = stepped_by devices d f None ∷ halted_at place f ds
 
--- What stays where the end of the peer stopped at a frame that was sent as it is, from a state on: each device did what its step
--- does, as far as the frame came; the peer's server accepted no less than before, and nothing else of a far end that stays
--- changed. Where the peer was activated its link has its range.
-pub record RawHaltLeaves (s : State) (id : DeviceId) (opened : Bool) (mid : State) (sent : Signal) (t : State) : Type 0 where
+-- What stays where the end of the peer stopped at a frame that was sent as it is, from a state on: each device did what
+-- its step does, as far as the frame came; the peer's server accepted no less than before, and nothing else of a far
+-- end that stays changed. Where the peer was activated its link has its range.
+pub record RawHaltLeaves (s : State) (id : DeviceId) (opened : Bool) (mid : State) (sent : Signal) (t : State)
+    : Type 0 where
   pub opens : opened ≡ true → IsPeerPlaced s id
   pub place : ℕ
   pub stands : peer_place mid.world.field.listeners ≡ Some place
@@ -119,8 +121,8 @@ pub record RawHaltLeaves (s : State) (id : DeviceId) (opened : Bool) (mid : Stat
   pub peers : t.peers ≡ peers_forged opened s id t.world.fars
   pub link : t.link ≡ None
 
--- Behind a front of frames that were sent as they are a request that was due passed, and as it handed a payload over the peer's end
--- stopped for want of memory: nothing came back.
+-- Behind a front of frames that were sent as they are a request that was due passed, and as it handed a payload over
+-- the peer's end stopped for want of memory: nothing came back.
 pub record RawHalts (joins : Joins) (s : State) (c : Command) (cut : List Event) (t : State) : Type 0 where
   pub id : DeviceId
   pub frames : List Signal

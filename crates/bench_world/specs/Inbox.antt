@@ -1,5 +1,6 @@
 -- What is told of the messages that a peer's server accepted, by the peer's links (this project's own).
-use Rattle.std.specs.Prelude.{ℕ, ◌+◌, Bool, true, false, not, ◌&&◌, ◌||◌, nat_eq, nat_lt, nat_le, List, [], ◌∷◌, ◌++◌, map, if◌then◌else◌, Option, Some, None}
+use Rattle.std.specs.Prelude.{ℕ, ◌+◌, Bool, true, false, not, ◌&&◌, ◌||◌, nat_eq, nat_lt, nat_le, List, [], ◌∷◌, ◌++◌}
+use Rattle.std.specs.Prelude.{map, if◌then◌else◌, Option, Some, None}
 use Rattle.snep_core.specs.Server.{Received as Accepted}
 use Rattle.bench_world.specs.declared.entry.Received.{Received}
 use Rattle.bench_world.specs.World.{FarEnd}
@@ -34,11 +35,13 @@ received_on link ms = map (λ (m : Accepted). record { link = link; source = m.s
 -- for each link of this peer, ascending, the messages of its range; the first link of the list has this number
 abbrev pub told_by_links : ℕ → List LinkRange → ℕ → List Accepted → List Received
 told_by_links n [] peer ms = []
-told_by_links n (l ∷ ls) peer ms = (if nat_eq l.peer peer then received_on n (gained_in l ms) else []) ++ told_by_links (n + 1) ls peer ms
+told_by_links n (l ∷ ls) peer ms = (if nat_eq l.peer peer then received_on n (gained_in l ms) else [])
+    ++ told_by_links (n + 1) ls peer ms
 
 -- first what came on no link, as of link 0, and then what came on each
 abbrev pub inbox_of : List LinkRange → ℕ → List Accepted → List Received
-inbox_of links peer ms = received_on 0 (chosen (λ n. not (came_on_link links peer n)) 0 ms) ++ told_by_links 1 links peer ms
+inbox_of links peer ms = received_on 0 (chosen (λ n. not (came_on_link links peer n)) 0 ms)
+    ++ told_by_links 1 links peer ms
 
 -- what is told of a peer by its number and its far end; a peer has both
 abbrev pub inbox_at : List LinkRange → Option ℕ → Option FarEnd → List Received

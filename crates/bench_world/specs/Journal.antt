@@ -12,7 +12,8 @@ pub record NumberedLine : Type 0 where
 -- the lines that ask for something, numbered from this number on; a line that asks for nothing counts too
 abbrev pub asking_lines : ℕ → List (List ℕ) → List NumberedLine
 asking_lines n [] = []
-asking_lines n (l ∷ ls) = if is_skipped l then asking_lines (n + 1) ls else record { number = n; text = l } ∷ asking_lines (n + 1) ls
+asking_lines n (l ∷ ls) = if is_skipped l then asking_lines (n + 1) ls
+    else record { number = n; text = l } ∷ asking_lines (n + 1) ls
 
 -- an entry for each line, in order, with its number and the command that it spells
 abbrev pub AreEntriesOf : List NumberedLine → List Entry → Type 0

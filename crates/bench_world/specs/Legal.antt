@@ -1,6 +1,7 @@
 -- Which entries a bench may have: what it accepts, what each command changes, which request is due, and what it
 -- answers. A later command adds a case to each definition.
-use Rattle.std.specs.Prelude.{◌≡◌, Err, ℕ, ◌+◌, ◌*◌, ◌-◌, ◌^◌, ◌<◌, ◌≤◌, List, [], ◌∷◌, ◌++◌, length, replicate, Option, Some, None, IsSome, Bool, true, false, if◌then◌else◌}
+use Rattle.std.specs.Prelude.{◌≡◌, Err, ℕ, ◌+◌, ◌*◌, ◌-◌, ◌^◌, ◌<◌, ◌≤◌, List, [], ◌∷◌, ◌++◌, length, replicate, Option}
+use Rattle.std.specs.Prelude.{Some, None, IsSome, Bool, true, false, if◌then◌else◌}
 use Rattle.std.specs.List.{All}
 use Rattle.nfc_base.specs.declared.event.Event.{Event}
 use Rattle.nfc_base.specs.declared.event.Fate.{Fate}
@@ -12,7 +13,11 @@ use Rattle.t4t_tag.specs.Store.{IsT4Store, file_size}
 use Rattle.t5t_tag.specs.Store.{IsT5Store}
 use Rattle.t3t_access.specs.declared.fault.T3Fault.TheVariants as three_fault
 use Rattle.bench_script.specs.declared.command.Command.{Command}
-use Rattle.bench_script.specs.declared.command.Command.TheVariants.{Skip, Fates, PlaceT2, PlaceT3, PlaceT4, PlaceT5, PlacePeer, Lock, Busy, Offer, Remove, Dump, Inbox, Find, Crowd, Poll3, Read, Read3, Write, Write3, Link, Forge, Raw, Put, Get, Lookup, OnPut, OnGet, Puts, Unlink}
+use Rattle.bench_script.specs.declared.command.Command.TheVariants.{Skip, Fates, PlaceT2, PlaceT3, PlaceT4, PlaceT5}
+use Rattle.bench_script.specs.declared.command.Command.TheVariants.{PlacePeer, Lock, Busy, Offer, Remove, Dump, Inbox}
+use Rattle.bench_script.specs.declared.command.Command.TheVariants.{Find, Crowd, Poll3, Read, Read3, Write, Write3}
+use Rattle.bench_script.specs.declared.command.Command.TheVariants.{Link, Forge, Raw, Put, Get, Lookup, OnPut, OnGet}
+use Rattle.bench_script.specs.declared.command.Command.TheVariants.{Puts, Unlink}
 use Rattle.bench_script.specs.declared.command.DeviceId.{DeviceId}
 use Rattle.bench_devices.specs.Crowding.{crowding}
 use Rattle.bench_devices.specs.declared.device.Device.{Device}
@@ -20,7 +25,8 @@ use Rattle.bench_world.specs.declared.entry.Answer.{Answer}
 use Rattle.bench_world.specs.declared.entry.Answer.TheVariants as answers
 use Rattle.bench_world.specs.declared.entry.Entry.{Entry}
 use Rattle.bench_devices.specs.AnyFrame.{peers_in}
-use Rattle.bench_devices.specs.Device.{most_devices, new_t2, new_t3, new_t4, new_t5, new_peer, blocks_of, device_locked, may_be_busy, device_busy, is_tag, memory_in}
+use Rattle.bench_devices.specs.Device.{most_devices, new_t2, new_t3, new_t4, new_t5, new_peer, blocks_of, device_locked}
+use Rattle.bench_devices.specs.Device.{may_be_busy, device_busy, is_tag, memory_in}
 use Rattle.nfc_base.specs.Pieces.{most_busy, longest_extension}
 use Rattle.bench_devices.specs.TagAsking.{tag_due}
 use Rattle.bench_devices.specs.ThreeAsking.{three_due}
@@ -41,21 +47,25 @@ use Rattle.snep_core.specs.Server.{IsLimit}
 use Rattle.bench_world.specs.World.{FarEnd, WholeWorld, bench_air, first_world, with_listeners, with_one_more, stable}
 use Rattle.bench_world.specs.declared.entry.Received.{Received}
 use Rattle.bench_world.specs.Inbox.{inbox_at}
-use Rattle.bench_world.specs.Peers.{Peers, no_peers, with_tag, with_peer, without_place, with_place_changed, placed_under, without_number, new_end, end_offered}
+use Rattle.bench_world.specs.Peers.{Peers, no_peers, with_tag, with_peer, without_place, with_place_changed}
+use Rattle.bench_world.specs.Peers.{placed_under, without_number, new_end, end_offered}
 use Rattle.snep_core.specs.Server.{Received as Accepted}
-use Rattle.bench_script.specs.Script.{SpellsName, longest_message, longest_payload, most_payloads, least_puts, most_puts, most_frames}
+use Rattle.bench_script.specs.Script.{SpellsName, longest_message, longest_payload, most_payloads, least_puts}
+use Rattle.bench_script.specs.Script.{most_puts, most_frames}
 use Rattle.bench_devices.specs.Opening.{linking}
 use Rattle.bench_world.specs.Links.{OpenLink, ended, is_with, end_numbered, begun_if, ended_unless, with_link_if}
 use Rattle.bench_world.specs.Linking.{LinkTells, link_if, own_general}
 use Rattle.link_calls.specs.Asking.{LinkAsking}
 use Rattle.bench_world.specs.Asked.{asked_on_link}
-use Rattle.bench_world.specs.Calls.{IfLinked, IsTold, OfEnd, PeerAdds, PeerMayAdd, PeerTells, asked_behind, due_asked, due_if, told_asked, with_accepted}
+use Rattle.bench_world.specs.Calls.{IfLinked, IsTold, OfEnd, PeerAdds, PeerMayAdd, PeerTells, asked_behind, due_asked}
+use Rattle.bench_world.specs.Calls.{due_if, told_asked, with_accepted}
 use Rattle.bench_world.specs.Arriving.{ArrivesAt, ArrivesCutAt, ArrivesCutWithin, ArrivesWithin, BeginsAt}
 use Rattle.bench_world.specs.Forging.{ForgeTells, forged_general, forging, opens_link}
 use Rattle.bench_world.specs.Rawing.{RawTells, raw_opens, rawing}
 use Rattle.bench_world.specs.Answering.{TagTells, TellsFound, TagsTell, ThreesTell, CutTag}
 use Rattle.bench_world.specs.Reading.{TellsOf, ReadAsks}
-use Rattle.bench_world.specs.Threes.{CutThree, KeepsStores3, ReadAsks3, TellsRead3, TellsWrite3, ThreeTells, WriteAsks3, WriteEnd3, end_told}
+use Rattle.bench_world.specs.Threes.{CutThree, KeepsStores3, ReadAsks3, TellsRead3, TellsWrite3, ThreeTells, WriteAsks3}
+use Rattle.bench_world.specs.Threes.{WriteEnd3, end_told}
 use Rattle.bench_world.specs.Writing.{TellsWrite, WriteAsks, KeepsStores, ending_told}
 use Rattle.bench_devices.specs.Answering.{FindTells}
 
@@ -179,8 +189,8 @@ pub record MayForge (payloads : List (List ℕ)) : Type 0 where
   pub few : length payloads ≤ most_payloads
   pub each : All IsPayload payloads
 
--- Frames may be sent as they are: there are some of them, not too many, and each is of the device's technology; and at most one peer
--- is placed.
+-- Frames may be sent as they are: there are some of them, not too many, and each is of the device's technology; and at
+-- most one peer is placed.
 pub record MayRaw (s : State) (id : DeviceId) (frames : List Signal) : Type 0 where
   pub some : 0 < length frames
   pub few : length frames ≤ most_frames
@@ -251,11 +261,21 @@ Accepts s Unlink = Unit {0}
 
 -- the state with one more tag, which has no far end
 abbrev pub with_device : State → Device → State
-with_device s d = record { world = with_one_more s.world d None; queue = s.queue; peers = with_tag s.peers; link = s.link }
+with_device s d = record {
+  world = with_one_more s.world d None;
+  queue = s.queue;
+  peers = with_tag s.peers;
+  link = s.link;
+}
 
 -- the state with one more peer, under its far end; it has the next number
 abbrev pub with_peer_under : State → Device → FarEnd → State
-with_peer_under s d end = record { world = with_one_more s.world d (Some end); queue = s.queue; peers = with_peer s.peers; link = s.link }
+with_peer_under s d end = record {
+  world = with_one_more s.world d (Some end);
+  queue = s.queue;
+  peers = with_peer s.peers;
+  link = s.link;
+}
 
 -- The state with the device that has an identifier taken away, and its far end with it: what stays of that is kept
 -- under the peer's number.
@@ -290,7 +310,13 @@ unlinked_from s id = record {
 
 -- the state in which the device with an identifier is changed so
 abbrev pub with_device_changed : State → DeviceId → (Device → Device) → State
-with_device_changed s id change = record { world = with_listeners s.world (with_changed change (bytes_of id) s.world.field.listeners); queue = s.queue; peers = s.peers; link = s.link }
+with_device_changed s id change =
+    record {
+      world = with_listeners s.world (with_changed change (bytes_of id) s.world.field.listeners);
+      queue = s.queue;
+      peers = s.peers;
+      link = s.link;
+    }
 
 -- the state in which the device with an identifier has one block more locked
 abbrev pub with_locked : State → DeviceId → ℕ → State
@@ -320,7 +346,8 @@ abbrev pub changed : State → Command → State
 changed s (Fates fates) = record { world = s.world; queue = s.queue ++ fates; peers = s.peers; link = s.link }
 changed s (PlaceT2 id blocks head) = with_device s (new_t2 id (memory_of (4 * blocks) head))
 changed s (PlaceT3 id blocks head) = with_device s (new_t3 id (memory_of (16 * blocks) head))
-changed s (PlaceT4 id code container head) = with_device s (new_t4 id code container (memory_of (file_size container) head))
+changed s (PlaceT4 id code container head) = with_device s
+    (new_t4 id code container (memory_of (file_size container) head))
 changed s (PlaceT5 id blocks size head) = with_device s (new_t5 id size (memory_of (size * blocks) head))
 changed s (PlacePeer id lr miu rw limit) = with_peer_under s (new_peer id lr miu) (new_end miu rw limit)
 changed s (Lock id block) = with_locked s id block
@@ -342,10 +369,13 @@ changed s c = s
 -- What a command asks of its tag, from the first command of the tag to the last. Only a read and a write of a placed
 -- one ask anything, and nothing of a peer.
 abbrev pub IsAskedBy : State → Command → List Signal → Type 0
-IsAskedBy s (Read id) asked = IfPlaced (λ d. ReadAsks d asked) (asked ≡ []) (device_with (bytes_of id) s.world.field.listeners)
+IsAskedBy s (Read id) asked = IfPlaced (λ d. ReadAsks d asked) (asked ≡ [])
+    (device_with (bytes_of id) s.world.field.listeners)
 IsAskedBy s (Write id message) asked =
-    IfPlaced (λ d. WriteAsks (message_of message) d asked) (asked ≡ []) (device_with (bytes_of id) s.world.field.listeners)
-IsAskedBy s (Read3 id) asked = IfPlaced (λ d. ReadAsks3 id d asked) (asked ≡ []) (device_with id s.world.field.listeners)
+    IfPlaced (λ d. WriteAsks (message_of message) d asked) (asked ≡ [])
+    (device_with (bytes_of id) s.world.field.listeners)
+IsAskedBy s (Read3 id) asked = IfPlaced (λ d. ReadAsks3 id d asked) (asked ≡ [])
+    (device_with id s.world.field.listeners)
 IsAskedBy s (Write3 id message) asked =
     IfPlaced (λ d. WriteAsks3 id (message_of message) d asked) (asked ≡ []) (device_with id s.world.field.listeners)
 IsAskedBy s c asked = asked ≡ []
@@ -385,7 +415,8 @@ world_after s joins c events = with_numbers (replay bench_air (world_at_start s 
 -- cut off: one that the command opened; the one that it asked something on, by how that ended; and else the one before.
 abbrev pub link_alone : State → Command → Option Answer → Option OpenLink
 link_alone s (Link id miu window) (Some (answers.Linked n)) =
-    link_if (placed_under id s.world.field.listeners s.peers.numbers) (device_with id s.world.field.listeners) miu window
+    link_if (placed_under id s.world.field.listeners s.peers.numbers) (device_with id s.world.field.listeners) miu
+    window
 link_alone s (Link id miu window) told = None
 link_alone s c told = (changed s c).link
 
@@ -396,22 +427,26 @@ link_left (Some asked) s joins c events told = asked_behind asked told s.link jo
 abbrev pub link_after : State → Joins → Command → List Event → Option Answer → Option OpenLink
 link_after s joins c events told = link_left (asked_on_link c) s joins c events told
 
--- the peers behind it, with their links: one more where the command opened one, which of a `forge` and of a `raw` has its end; and
--- the one that ended has its end
+-- the peers behind it, with their links: one more where the command opened one, which of a `forge` and of a `raw` has
+-- its end; and the one that ended has its end
 abbrev pub peers_forged : Bool → State → DeviceId → List (Option FarEnd) → Peers
 peers_forged false s id behind = (unlinked s).peers
-peers_forged true s id behind = with_link_if (placed_under (bytes_of id) s.world.field.listeners s.peers.numbers) s.world.fars behind (unlinked s).peers
+peers_forged true s id behind = with_link_if (placed_under (bytes_of id) s.world.field.listeners s.peers.numbers)
+    s.world.fars behind (unlinked s).peers
 
 abbrev pub peers_alone : State → Joins → Command → List Event → Option Answer → Peers
-peers_alone s joins (Link id miu window) events told = begun_if (link_alone s (Link id miu window) told) (unlinked s).world.fars (unlinked s).peers
+peers_alone s joins (Link id miu window) events told =
+    begun_if (link_alone s (Link id miu window) told) (unlinked s).world.fars (unlinked s).peers
 peers_alone s joins (Forge id payloads) events told =
     peers_forged (opens_link id payloads events) s (DeviceId.A id) (world_after s joins (Forge id payloads) events).fars
-peers_alone s joins (Raw id frames) events told = peers_forged (raw_opens id frames events) s id (world_after s joins (Raw id frames) events).fars
+peers_alone s joins (Raw id frames) events told = peers_forged (raw_opens id frames events) s id
+    (world_after s joins (Raw id frames) events).fars
 peers_alone s joins c events told = (changed s c).peers
 
 abbrev pub peers_left : Option LinkAsking → State → Joins → Command → List Event → Option Answer → Peers
 peers_left None s joins c events told = peers_alone s joins c events told
-peers_left (Some asked) s joins c events told = ended_unless (link_after s joins c events told) s.link (world_after s joins c events).fars s.peers
+peers_left (Some asked) s joins c events told = ended_unless (link_after s joins c events told) s.link
+    (world_after s joins c events).fars s.peers
 
 abbrev pub peers_after : State → Joins → Command → List Event → Option Answer → Peers
 peers_after s joins c events told = peers_left (asked_on_link c) s joins c events told
@@ -430,7 +465,8 @@ abbrev pub LeavesStable : State → Joins → Command → List Event → Type 0
 LeavesStable s joins c events = stable (world_after s joins c events) ≡ stable (changed s c).world
 
 -- A search and a read change nothing that stays.
-pub record ReadLaw (s : State) (joins : Joins) (id : DeviceId) (asked : List Signal) (events : List Event) (answer : Answer) : Type 0 where
+pub record ReadLaw (s : State) (joins : Joins) (id : DeviceId) (asked : List Signal) (events : List Event)
+    (answer : Answer) : Type 0 where
   pub tells : TagTells TellsOf id s.world.field.listeners asked events answer
   pub stays : LeavesStable s joins (Read id) events
 
@@ -450,47 +486,61 @@ pub record SenseLaw (s : State) (joins : Joins) (events : List Event) (answer : 
 -- command and the one after each event, resets and polling too. No other store, no locked block and nothing that stays
 -- of a far end changes. The images of the tag's store are told by the field alone, since no far end has a part in what
 -- a tag takes.
-pub record StoresLaw (s : State) (joins : Joins) (id : DeviceId) (message : Msg) (ending : Ending) (events : List Event) : Type 0 where
-  pub law : IfPlaced (λ d. KeepsStores (message_of message) d ending s.world.field events) (Unit {0}) (device_with (bytes_of id) s.world.field.listeners)
-  pub others : AllKeepBut (bytes_of id) s.world.field.listeners (world_after s joins (Write id message) events).field.listeners
+pub record StoresLaw (s : State) (joins : Joins) (id : DeviceId) (message : Msg) (ending : Ending) (events : List Event)
+    : Type 0 where
+  pub law : IfPlaced (λ d. KeepsStores (message_of message) d ending s.world.field events) (Unit {0})
+      (device_with (bytes_of id) s.world.field.listeners)
+  pub others : AllKeepBut (bytes_of id) s.world.field.listeners
+      (world_after s joins (Write id message) events).field.listeners
   pub ends : (stable (world_after s joins (Write id message) events)).ends ≡ (stable s.world).ends
 
-pub record WritingLaw (s : State) (joins : Joins) (id : DeviceId) (message : Msg) (asked : List Signal) (events : List Event) (answer : Answer) : Type 0 where
+pub record WritingLaw (s : State) (joins : Joins) (id : DeviceId) (message : Msg) (asked : List Signal)
+    (events : List Event) (answer : Answer) : Type 0 where
   pub tells : TagTells (TellsWrite (message_of message)) id s.world.field.listeners asked events answer
   pub stores : StoresLaw s joins id message (ending_told answer) events
 
--- Likewise of Type 3 tags. A write of one passes other stores: the one before the command, then such that say that a write is under
--- way, then such that hold the message.
-pub record Read3Law (s : State) (joins : Joins) (id : List ℕ) (asked : List Signal) (events : List Event) (answer : Answer) : Type 0 where
+-- Likewise of Type 3 tags. A write of one passes other stores: the one before the command, then such that say that a
+-- write is under way, then such that hold the message.
+pub record Read3Law (s : State) (joins : Joins) (id : List ℕ) (asked : List Signal) (events : List Event)
+    (answer : Answer) : Type 0 where
   pub tells : ThreeTells TellsRead3 id s.world.field.listeners asked events answer
   pub stays : LeavesStable s joins (Read3 id) events
 
-pub record Stores3Law (s : State) (joins : Joins) (id : List ℕ) (message : Msg) (end : WriteEnd3) (events : List Event) : Type 0 where
-  pub law : IfPlaced (λ d. KeepsStores3 (message_of message) d end s.world.field events) (Unit {0}) (device_with id s.world.field.listeners)
+pub record Stores3Law (s : State) (joins : Joins) (id : List ℕ) (message : Msg) (end : WriteEnd3) (events : List Event)
+    : Type 0 where
+  pub law : IfPlaced (λ d. KeepsStores3 (message_of message) d end s.world.field events) (Unit {0})
+      (device_with id s.world.field.listeners)
   pub others : AllKeepBut id s.world.field.listeners (world_after s joins (Write3 id message) events).field.listeners
   pub ends : (stable (world_after s joins (Write3 id message) events)).ends ≡ (stable s.world).ends
 
-pub record Writing3Law (s : State) (joins : Joins) (id : List ℕ) (message : Msg) (asked : List Signal) (events : List Event) (answer : Answer) : Type 0 where
+pub record Writing3Law (s : State) (joins : Joins) (id : List ℕ) (message : Msg) (asked : List Signal)
+    (events : List Event) (answer : Answer) : Type 0 where
   pub tells : ThreeTells (TellsWrite3 (message_of message)) id s.world.field.listeners asked events answer
   pub stores : Stores3Law s joins id message (end_told answer) events
 
 -- A dump tells what the device with this identifier holds.
 abbrev pub DumpLaw : State → DeviceId → Answer → Type 0
-DumpLaw s id answer = OfPlaced (λ d. answer ≡ answers.Store (memory_in d)) (device_with (bytes_of id) s.world.field.listeners)
+DumpLaw s id answer = OfPlaced (λ d. answer ≡ answers.Store (memory_in d))
+    (device_with (bytes_of id) s.world.field.listeners)
 
 -- An inbox tells what the server of the peer with this identifier accepted, by the peer's links.
 abbrev pub inbox_now : State → DeviceId → List Received
 inbox_now s id =
-    inbox_at s.peers.links (placed_under (bytes_of id) s.world.field.listeners s.peers.numbers) (placed_under (bytes_of id) s.world.field.listeners s.world.fars)
+    inbox_at s.peers.links (placed_under (bytes_of id) s.world.field.listeners s.peers.numbers)
+    (placed_under (bytes_of id) s.world.field.listeners s.world.fars)
 
 -- A link is opened, or not: nothing that stays changes. One that is open begins at its peer's end too.
-pub record LinkingLaw (s : State) (joins : Joins) (id : List ℕ) (miu window : ℕ) (events : List Event) (answer : Answer) : Type 0 where
-  pub tells : LinkTells (DeviceId.A id) s.world.field.listeners (length s.peers.links + 1) (own_general miu) events answer
+pub record LinkingLaw (s : State) (joins : Joins) (id : List ℕ) (miu window : ℕ) (events : List Event) (answer : Answer)
+    : Type 0 where
+  pub tells : LinkTells (DeviceId.A id) s.world.field.listeners (length s.peers.links + 1) (own_general miu) events
+      answer
   pub begins : IfLinked (link_after s joins (Link id miu window) events (Some answer))
-      (λ l. BeginsAt l (own_general miu) s.peers.numbers s.world.fars (world_after s joins (Link id miu window) events).fars) (Unit {0})
+      (λ l. BeginsAt l (own_general miu) s.peers.numbers s.world.fars
+      (world_after s joins (Link id miu window) events).fars) (Unit {0})
   pub stays : LeavesStable s joins (Link id miu window) events
   -- where `linked` is told a link is open
-  pub opens : (n : ℕ) → answer ≡ answers.Linked n → IsSome (link_after s joins (Link id miu window) events (Some answer))
+  pub opens : (n : ℕ) → answer ≡ answers.Linked n → IsSome
+      (link_after s joins (Link id miu window) events (Some answer))
 
 -- the far end of a link's peer
 abbrev pub peer_end_of : State → OpenLink → Option FarEnd
@@ -498,44 +548,52 @@ peer_end_of s l = end_numbered l.peer s.peers.numbers s.world.fars
 
 -- what arrived at it in a command on the link
 abbrev pub Came : State → Joins → OpenLink → Command → List Event → Answer → Type 0
-Came s joins l c events answer = ArrivesAt l s.peers.numbers joins.far s.world.fars (world_after s joins c events).fars events (link_after s joins c events (Some answer))
+Came s joins l c events answer = ArrivesAt l s.peers.numbers joins.far s.world.fars (world_after s joins c events).fars
+    events (link_after s joins c events (Some answer))
 
--- Something is asked on the open link. It is told by where it stands, and the answer is right of the peer; the peer's server
--- accepted what that adds, and nothing else that stays changes.
-pub record CallLaw (s : State) (joins : Joins) (l : OpenLink) (asked : LinkAsking) (c : Command) (events : List Event) (answer : Answer) : Type 0 where
+-- Something is asked on the open link. It is told by where it stands, and the answer is right of the peer; the peer's
+-- server accepted what that adds, and nothing else that stays changes.
+pub record CallLaw (s : State) (joins : Joins) (l : OpenLink) (asked : LinkAsking) (c : Command) (events : List Event)
+    (answer : Answer) : Type 0 where
   pub told : IsTold (told_asked asked l joins.own events) events answer
   pub came : Came s joins l c events answer
   pub tells : OfEnd (λ end. PeerTells asked end answer) (peer_end_of s l)
   pub more : List Accepted
   pub adds : OfEnd (λ end. PeerAdds asked end answer more) (peer_end_of s l)
   pub devices : (stable (world_after s joins c events)).devices ≡ (stable s.world).devices
-  pub ends : (stable (world_after s joins c events)).ends ≡ with_accepted more l.peer s.peers.numbers (stable s.world).ends
+  pub ends : (stable (world_after s joins c events)).ends
+      ≡ with_accepted more l.peer s.peers.numbers (stable s.world).ends
 
--- A link was opened to the peer with an identifier, and payloads were sent over it: what arrived at its end this answered,
--- and what the payloads put its server accepted. Nothing else that stays changes.
-pub record ForgeSends (s : State) (joins : Joins) (id : List ℕ) (payloads : List (List ℕ)) (events : List Event) : Type 0 where
+-- A link was opened to the peer with an identifier, and payloads were sent over it: what arrived at its end this
+-- answered, and what the payloads put its server accepted. Nothing else that stays changes.
+pub record ForgeSends (s : State) (joins : Joins) (id : List ℕ) (payloads : List (List ℕ)) (events : List Event)
+    : Type 0 where
   pub peer : ℕ
   pub placed : placed_under id s.world.field.listeners s.peers.numbers ≡ Some peer
-  pub came : ArrivesWithin peer forged_general s.peers.numbers joins.far s.world.fars (world_after s joins (Forge id payloads) events).fars events
+  pub came : ArrivesWithin peer forged_general s.peers.numbers joins.far s.world.fars
+      (world_after s joins (Forge id payloads) events).fars events
   pub more : List Accepted
   pub devices : (stable (world_after s joins (Forge id payloads) events)).devices ≡ (stable s.world).devices
-  pub ends : (stable (world_after s joins (Forge id payloads) events)).ends ≡ with_accepted more peer s.peers.numbers (stable s.world).ends
+  pub ends : (stable (world_after s joins (Forge id payloads) events)).ends
+      ≡ with_accepted more peer s.peers.numbers (stable s.world).ends
 
 -- where none was opened nothing that stays changes
 abbrev pub ForgeLeaves : Bool → State → Joins → List ℕ → List (List ℕ) → List Event → Type 0
 ForgeLeaves true s joins id payloads events = ForgeSends s joins id payloads events
 ForgeLeaves false s joins id payloads events = LeavesStable s joins (Forge id payloads) events
 
-pub record ForgeLaw (s : State) (joins : Joins) (id : List ℕ) (payloads : List (List ℕ)) (events : List Event) (answer : Answer) : Type 0 where
+pub record ForgeLaw (s : State) (joins : Joins) (id : List ℕ) (payloads : List (List ℕ)) (events : List Event)
+    (answer : Answer) : Type 0 where
   pub tells : ForgeTells id s.world.field.listeners payloads events answer
   pub leaves : ForgeLeaves (opens_link id payloads events) s joins id payloads events
 
--- Frames that are sent as they are open a link to a placed peer alone. Of each frame it is told what was heard; of stores and of what
--- peers accepted nothing more is said than that the turns lead to it.
+-- Frames that are sent as they are open a link to a placed peer alone. Of each frame it is told what was heard; of
+-- stores and of what peers accepted nothing more is said than that the turns lead to it.
 abbrev pub RawOpensPeer : State → DeviceId → List Signal → List Event → Type 0
 RawOpensPeer s id frames events = raw_opens id frames events ≡ true → IsPeerPlaced s id
 
-pub record RawLaw (s : State) (id : DeviceId) (frames : List Signal) (events : List Event) (answer : Answer) : Type 0 where
+pub record RawLaw (s : State) (id : DeviceId) (frames : List Signal) (events : List Event) (answer : Answer)
+    : Type 0 where
   pub tells : RawTells id s.world.field.listeners frames events answer
   pub opens : RawOpensPeer s id frames events
 
@@ -568,13 +626,14 @@ AnswerAlone s g c events answer = ⊥
 -- the law of the answers, by what a command asks on the open link; where none is open nothing is asked
 abbrev pub AnswerBy : Option LinkAsking → State → Given → Command → List Event → Answer → Type 0
 AnswerBy None s g c events answer = AnswerAlone s g c events answer
-AnswerBy (Some asked) s g c events answer = IfLinked s.link (λ l. CallLaw s g.joins l asked c events answer) (answer ≡ answers.NoLink)
+AnswerBy (Some asked) s g c events answer = IfLinked s.link (λ l. CallLaw s g.joins l asked c events answer)
+    (answer ≡ answers.NoLink)
 
 abbrev pub AnswerLaw : State → Given → Command → List Event → Answer → Type 0
 AnswerLaw s g c events answer = AnswerBy (asked_on_link c) s g c events answer
 
--- The numbers that a command takes of these: any on the open link, since payloads are handed over there; those of far ends
--- where payloads or frames are written by hand, which are as they are; and none else.
+-- The numbers that a command takes of these: any on the open link, since payloads are handed over there; those of far
+-- ends where payloads or frames are written by hand, which are as they are; and none else.
 abbrev pub joins_alone : Command → Joins → Joins
 joins_alone (Forge id payloads) joins = record { own = []; far = joins.far }
 joins_alone (Raw id frames) joins = record { own = []; far = joins.far }
@@ -587,10 +646,11 @@ joins_by (Some asked) c joins = joins
 abbrev pub joins_for : Command → Joins → Joins
 joins_for c joins = joins_by (asked_on_link c) c joins
 
--- A front of a step: from this state the command is accepted, it has the numbers that it takes, and turns were made, each
--- due, by the first fates; they lead to that state, where this was told, or nothing yet. An entry is a front that is over
--- and answered; a command that was cut off leaves one.
-pub record FrontOf (s : State) (g : Given) (c : Command) (events : List Event) (told : Option Answer) (t : State) : Type 0 where
+-- A front of a step: from this state the command is accepted, it has the numbers that it takes, and turns were made,
+-- each due, by the first fates; they lead to that state, where this was told, or nothing yet. An entry is a front that
+-- is over and answered; a command that was cut off leaves one.
+pub record FrontOf (s : State) (g : Given) (c : Command) (events : List Event) (told : Option Answer) (t : State)
+    : Type 0 where
   pub accepted : Accepts s c
   pub asks : IsAskedBy s c g.asked
   pub takes : g.joins ≡ joins_for c g.joins
@@ -609,33 +669,37 @@ pub record LegalStep (s : State) (g : Given) (e : Entry) (t : State) : Type 0 wh
 abbrev pub CutCame : State → Joins → OpenLink → Command → List Event → Type 0
 CutCame s joins l c cut = ArrivesCutAt l s.peers.numbers joins.far s.world.fars (world_after s joins c cut).fars cut
 
--- of what was asked on the link and cut off the peer's server accepted at most what it may add, and nothing else that stays
--- changed
-pub record CutCall (s : State) (joins : Joins) (l : OpenLink) (asked : LinkAsking) (c : Command) (cut : List Event) : Type 0 where
+-- of what was asked on the link and cut off the peer's server accepted at most what it may add, and nothing else that
+-- stays changed
+pub record CutCall (s : State) (joins : Joins) (l : OpenLink) (asked : LinkAsking) (c : Command) (cut : List Event)
+    : Type 0 where
   pub came : CutCame s joins l c cut
   pub more : List Accepted
   pub adds : OfEnd (λ end. PeerMayAdd asked end more) (peer_end_of s l)
   pub devices : (stable (world_after s joins c cut)).devices ≡ (stable s.world).devices
   pub ends : (stable (world_after s joins c cut)).ends ≡ with_accepted more l.peer s.peers.numbers (stable s.world).ends
 
--- Payloads were sent over a link of their own, and it was cut off: what arrived at its peer's end this answered, but for
--- the last payload, at which it may have stopped.
-pub record ForgeCut (s : State) (joins : Joins) (id : List ℕ) (payloads : List (List ℕ)) (cut : List Event) : Type 0 where
+-- Payloads were sent over a link of their own, and it was cut off: what arrived at its peer's end this answered, but
+-- for the last payload, at which it may have stopped.
+pub record ForgeCut (s : State) (joins : Joins) (id : List ℕ) (payloads : List (List ℕ)) (cut : List Event)
+    : Type 0 where
   pub peer : ℕ
   pub placed : placed_under id s.world.field.listeners s.peers.numbers ≡ Some peer
-  pub came : ArrivesCutWithin peer forged_general s.peers.numbers joins.far s.world.fars (world_after s joins (Forge id payloads) cut).fars cut
+  pub came : ArrivesCutWithin peer forged_general s.peers.numbers joins.far s.world.fars
+      (world_after s joins (Forge id payloads) cut).fars cut
   pub more : List Accepted
   pub devices : (stable (world_after s joins (Forge id payloads) cut)).devices ≡ (stable s.world).devices
-  pub ends : (stable (world_after s joins (Forge id payloads) cut)).ends ≡ with_accepted more peer s.peers.numbers (stable s.world).ends
+  pub ends : (stable (world_after s joins (Forge id payloads) cut)).ends
+      ≡ with_accepted more peer s.peers.numbers (stable s.world).ends
 
 abbrev pub ForgeCutLeaves : Bool → State → Joins → List ℕ → List (List ℕ) → List Event → Type 0
 ForgeCutLeaves true s joins id payloads cut = ForgeCut s joins id payloads cut
 ForgeCutLeaves false s joins id payloads cut = LeavesStable s joins (Forge id payloads) cut
 
 -- What a command that was cut off leaves of what stays: the stores of a write keep its law, what was asked on the open
--- link adds what it may at most, a `raw` leaves what its turns lead to, and no other command in which something is sent changed
--- anything. A command that sends
--- nothing is never left half done: where memory is wanting nothing of it was done.
+-- link adds what it may at most, a `raw` leaves what its turns lead to, and no other command in which something is sent
+-- changed anything. A command that sends nothing is never left half done: where memory is wanting nothing of it was
+-- done.
 abbrev pub CutAlone : State → Joins → Command → List Event → Type 0
 CutAlone s joins Find cut = LeavesStable s joins Find cut
 CutAlone s joins Crowd cut = LeavesStable s joins Crowd cut
@@ -662,13 +726,15 @@ CutFront joins s c cut t = (g : Given) × (g.joins ≡ joins) × FrontOf s g c c
 
 -- a front of a step that was cut off, and of a read and a write how
 abbrev pub CutFrontBy : (List Signal → Type 0) → Joins → State → Command → List Event → State → Type 0
-CutFrontBy How joins s c cut t = (g : Given) × (g.joins ≡ joins) × FrontOf s g c cut None t × CutStores s g.joins c cut × How g.asked
+CutFrontBy How joins s c cut t = (g : Given) × (g.joins ≡ joins) × FrontOf s g c cut None t × CutStores s g.joins c cut
+    × How g.asked
 
 abbrev pub CutShort : Joins → State → Command → List Event → State → Type 0
 CutShort joins s (Read id) cut t = CutFrontBy (λ asked. CutTag id asked cut) joins s (Read id) cut t
 CutShort joins s (Write id message) cut t = CutFrontBy (λ asked. CutTag id asked cut) joins s (Write id message) cut t
 CutShort joins s (Read3 id) cut t = CutFrontBy (λ asked. CutThree id asked cut) joins s (Read3 id) cut t
-CutShort joins s (Write3 id message) cut t = CutFrontBy (λ asked. CutThree id asked cut) joins s (Write3 id message) cut t
+CutShort joins s (Write3 id message) cut t = CutFrontBy (λ asked. CutThree id asked cut) joins s (Write3 id message) cut
+    t
 CutShort joins s c cut t = CutFront joins s c cut t
 
 -- The entries lead from one state to another, each behind those before it, and each has what its step is said for.

@@ -1,7 +1,8 @@
 -- The law of links: what a peer accepts on a link is a prefix of what was put there and fits, which covers all that was
--- told to be taken, and at most one more; and it's what the payloads put that arrived there (NFC Forum SNEP 1.0; the law
--- is this project's own).
-use Rattle.std.specs.Prelude.{◌≡◌, Bool, true, false, ℕ, ◌+◌, ◌==◌, nat_eq, not, ◌⊎◌, List, [], ◌∷◌, ◌++◌, map, if◌then◌else◌, Option, Some, None}
+-- told to be taken, and at most one more; and it's what the payloads put that arrived there (NFC Forum SNEP 1.0; the
+-- law is this project's own).
+use Rattle.std.specs.Prelude.{◌≡◌, Bool, true, false, ℕ, ◌+◌, ◌==◌, nat_eq, not, ◌⊎◌, List, [], ◌∷◌, ◌++◌, map}
+use Rattle.std.specs.Prelude.{if◌then◌else◌, Option, Some, None}
 use Rattle.std.specs.List.{AllByRecursion}
 use Rattle.snep_core.specs.Links.{Put, LinkAccepts}
 use Rattle.snep_core.specs.Payloads.{accepted_from}
@@ -21,19 +22,22 @@ use Rattle.bench_world.specs.Journal.{LeadsTo}
 use Rattle.bench_world.specs.Legal.{State, Joins, CutShort, first_state}
 use Rattle.bench_world.specs.Halting.{Halts}
 use Rattle.bench_world.specs.Peers.{placed_under}
-use Rattle.bench_world.specs.Stories.{Opener, ByLink, ByForge, ByRaw, Beginning, NothingBegins, BeginsOpen, BeginsAndEnds, LinkPut, Story, Stretch, accepted_in, beginning, state_from, stories_behind, stories_of}
+use Rattle.bench_world.specs.Stories.{Opener, ByLink, ByForge, ByRaw, Beginning, NothingBegins, BeginsOpen}
+use Rattle.bench_world.specs.Stories.{BeginsAndEnds, LinkPut, Story, Stretch, accepted_in, beginning, state_from}
+use Rattle.bench_world.specs.Stories.{stories_behind, stories_of}
 
 -- what was put from a client's SAP
 abbrev pub puts_from : ℕ → List LinkPut → List Put
 puts_from client [] = []
 puts_from client (p ∷ ps) = if p.source == client then p.put ∷ puts_from client ps else puts_from client ps
 
--- On a link that `link` opened: of each client's SAP, what was accepted from it is a prefix of the messages that were put
--- from it and are within the limit. The prefix covers all of them that were told to be taken, and at most one more, which
--- then is the last put, and wasn't answered. Payloads and frames that are written by hand are no puts of a client: of such a
--- link this says nothing.
+-- On a link that `link` opened: of each client's SAP, what was accepted from it is a prefix of the messages that were
+-- put from it and are within the limit. The prefix covers all of them that were told to be taken, and at most one more,
+-- which then is the last put, and wasn't answered. Payloads and frames that are written by hand are no puts of a
+-- client: of such a link this says nothing.
 abbrev pub AcceptsByOpener : Opener → Story → Type 0
-AcceptsByOpener ByLink y = (client : ℕ) → LinkAccepts y.begun.service.limit (puts_from client y.puts) (accepted_from client y.gained)
+AcceptsByOpener ByLink y = (client : ℕ) → LinkAccepts y.begun.service.limit (puts_from client y.puts)
+    (accepted_from client y.gained)
 AcceptsByOpener ByForge y = Unit {0}
 AcceptsByOpener ByRaw y = Unit {0}
 
@@ -77,19 +81,20 @@ openers_in (e ∷ es) = opener_of (beginning e.command e.events (Some e.answer))
 -- each message that was gained on a link of this peer, as an inbox tells it
 abbrev pub told_by_stories : List Story → ℕ → List Received
 told_by_stories [] peer = []
-told_by_stories (y ∷ ys) peer = (if nat_eq y.peer peer then received_on y.number y.gained else []) ++ told_by_stories ys peer
+told_by_stories (y ∷ ys) peer = (if nat_eq y.peer peer then received_on y.number y.gained else [])
+    ++ told_by_stories ys peer
 
 -- the number of the peer with an identifier
 abbrev pub peer_under : DeviceId → State → Option ℕ
 peer_under id s = placed_under (bytes_of id) s.world.field.listeners s.peers.numbers
 
--- What a peer's list gained outside all stories: what stands there in the range of none of its links. Frames that are sent as they
--- are may bring it, without a link.
+-- What a peer's list gained outside all stories: what stands there in the range of none of its links. Frames that are
+-- sent as they are may bring it, without a link.
 abbrev pub gained_aside : State → ℕ → List Accepted
 gained_aside s peer = chosen (λ n. not (came_on_link s.peers.links peer n)) 0 (accepted_in peer s)
 
--- An inbox tells first what its peer's list gained on no link, and then what it gained on each link so far, each message once, and
--- nothing else.
+-- An inbox tells first what its peer's list gained on no link, and then what it gained on each link so far, each
+-- message once, and nothing else.
 pub record TellsInbox (s : State) (so_far : List Story) (id : DeviceId) (answer : Answer) : Type 0 where
   pub peer : ℕ
   pub placed : peer_under id s ≡ Some peer
@@ -98,7 +103,8 @@ pub record TellsInbox (s : State) (so_far : List Story) (id : DeviceId) (answer 
 -- So does each of a journal, by the entries before it.
 abbrev pub InboxesTell : List Joins → List Entry → Type 0
 InboxesTell numbers journal =
-    (before : List Entry) (e : Entry) (behind : List Entry) (id : DeviceId) → journal ≡ before ++ e ∷ behind → e.command ≡ commands.Inbox id
+    (before : List Entry) (e : Entry) (behind : List Entry) (id : DeviceId) → journal ≡ before ++ e ∷ behind
+    → e.command ≡ commands.Inbox id
     → TellsInbox (state_from first_state numbers before) (stories_of numbers before) id e.answer
 
 -- Frames of a script's own are sent by a command.
@@ -106,16 +112,18 @@ abbrev pub is_raw : Command → Bool
 is_raw (commands.Raw id frames) = true
 is_raw c = false
 
--- As long as a journal sends no such frames, what stands in a peer's list came on its links: an inbox tells of no others.
+-- As long as a journal sends no such frames, what stands in a peer's list came on its links: an inbox tells of no
+-- others.
 abbrev pub NothingAside : List Joins → List Entry → Type 0
 NothingAside numbers journal =
     (before : List Entry) (behind : List Entry) (id : DeviceId) (peer : ℕ) → journal ≡ before ++ behind
-    → AllByRecursion (λ (e : Entry). is_raw e.command ≡ false) before → peer_under id (state_from first_state numbers before) ≡ Some peer
+    → AllByRecursion (λ (e : Entry). is_raw e.command ≡ false) before
+    → peer_under id (state_from first_state numbers before) ≡ Some peer
     → gained_aside (state_from first_state numbers before) peer ≡ []
 
--- The links of a journal, by the numbers of PDUs of its entries. Each has its story, and its number, in order, from 1 on;
--- an entry has one exactly where a link begins in it; and those that `link` opened are those that the answers `linked`
--- tell of.
+-- The links of a journal, by the numbers of PDUs of its entries. Each has its story, and its number, in order, from 1
+-- on; an entry has one exactly where a link begins in it; and those that `link` opened are those that the answers
+-- `linked` tell of.
 pub record LinksAccept (numbers : List Joins) (journal : List Entry) : Type 0 where
   pub accept : AllByRecursion KeepsLinkLaw (stories_of numbers journal)
   pub arrived : AllByRecursion (IfPayloads IsByPayloads) (stories_of numbers journal)
@@ -128,7 +136,8 @@ pub record LinksAccept (numbers : List Joins) (journal : List Entry) : Type 0 wh
 -- So it is of each legal journal.
 abbrev pub LinkLaw : Type 0
 LinkLaw =
-    (lines : List (List ℕ)) (numbers : List Joins) (journal : List Entry) (last : State) → LeadsTo lines numbers journal last
+    (lines : List (List ℕ)) (numbers : List Joins) (journal : List Entry) (last : State)
+    → LeadsTo lines numbers journal last
     → LinksAccept numbers journal
 
 -- A command that want of memory cut off is one stretch more, of which nothing was told.
@@ -139,14 +148,19 @@ cut_stretch c joins cut = record { command = c; joins = joins; events = cut; tol
 -- answered. Where nothing was done the links are as the journal left them.
 abbrev pub CutLinkLaw : Type 0
 CutLinkLaw =
-    (lines : List (List ℕ)) (numbers : List Joins) (journal : List Entry) (last : State) → LeadsTo lines numbers journal last
-    → (joins : Joins) (c : Command) (cut : List Event) (t : State) → CutShort joins last c cut t ⊎ Halts joins last c cut t
+    (lines : List (List ℕ)) (numbers : List Joins) (journal : List Entry) (last : State)
+    → LeadsTo lines numbers journal last
+    → (joins : Joins) (c : Command) (cut : List Event) (t : State)
+    → CutShort joins last c cut t ⊎ Halts joins last c cut t
     → AllByRecursion KeepsLinkLaw (stories_behind last (cut_stretch c joins cut) t (stories_of numbers journal))
 
--- What arrived counts there too: what the peers' lists gained is the first of what the payloads put, and at least what all
--- payloads but the last put.
+-- What arrived counts there too: what the peers' lists gained is the first of what the payloads put, and at least what
+-- all payloads but the last put.
 abbrev pub CutArrivalLaw : Type 0
 CutArrivalLaw =
-    (lines : List (List ℕ)) (numbers : List Joins) (journal : List Entry) (last : State) → LeadsTo lines numbers journal last
-    → (joins : Joins) (c : Command) (cut : List Event) (t : State) → CutShort joins last c cut t ⊎ Halts joins last c cut t
-    → AllByRecursion (IfPayloads IsFrontOfPayloads) (stories_behind last (cut_stretch c joins cut) t (stories_of numbers journal))
+    (lines : List (List ℕ)) (numbers : List Joins) (journal : List Entry) (last : State)
+    → LeadsTo lines numbers journal last
+    → (joins : Joins) (c : Command) (cut : List Event) (t : State)
+    → CutShort joins last c cut t ⊎ Halts joins last c cut t
+    → AllByRecursion (IfPayloads IsFrontOfPayloads) (stories_behind last (cut_stretch c joins cut) t
+    (stories_of numbers journal))

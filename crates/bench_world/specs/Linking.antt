@@ -72,7 +72,8 @@ TellsLoss asking.Protocol answer = ⊥
 -- What is answered once a device is selected: a tag has no link as peers do. To a peer that answered ATR_REQ a link is
 -- open, under this number.
 abbrev pub LinkEnds : ℕ → List ℕ → Result SeenKind PollFault → List Note → Answer → Type 0
-LinkEnds n general (Ok seen.Peer) behind answer = TellsStanding (λ a. a ≡ answers.Linked n) TellsLoss (stand 0 (atr_frame general ∷ []) behind) answer
+LinkEnds n general (Ok seen.Peer) behind answer = TellsStanding (λ a. a ≡ answers.Linked n) TellsLoss
+    (stand 0 (atr_frame general ∷ []) behind) answer
 LinkEnds n general (Ok seen.T2) behind answer = answer ≡ answers.WrongKind
 LinkEnds n general (Ok seen.T4) behind answer = answer ≡ answers.WrongKind
 LinkEnds n general (Ok seen.T5) behind answer = answer ≡ answers.WrongKind
@@ -85,7 +86,8 @@ IsFieldLost answer = (answer ≡ answers.FieldLost) ⊎ (answer ≡ answers.Link
 -- The law of the answer, over the devices that are placed: first a device is selected, then it is asked for a link. The
 -- field is lost exactly where a Break was used, and without noise no wait has six bad receptions: each note behind the
 -- selection is a whole answer.
-pub record LinkTells (id : DeviceId) (ds : List Device) (n : ℕ) (general : List ℕ) (events : List Event) (answer : Answer) : Type 0 where
+pub record LinkTells (id : DeviceId) (ds : List Device) (n : ℕ) (general : List ℕ) (events : List Event)
+    (answer : Answer) : Type 0 where
   pub polled : Result SeenKind PollFault
   pub behind : List Note
   pub selected : selecting id (receptions events) ≡ Told polled behind

@@ -9,8 +9,8 @@ use Rattle.bench_world.specs.World.{FarEnd}
 use Rattle.bench_world.specs.declared.inbox.LinkRange.{LinkRange}
 use Rattle.bench_world.specs.Peers.{Peers}
 
--- An open link: its peer, by its number; where the initiator stands between two exchanges; this end of it, from which a client asks; and
--- what each slot of the client was told last.
+-- An open link: its peer, by its number; where the initiator stands between two exchanges; this end of it, from which a
+-- client asks; and what each slot of the client was told last.
 pub record OpenLink : Type 0 where
   pub peer : ℕ
   pub initiator : InitState
@@ -41,7 +41,8 @@ with_link l p = record { numbers = p.numbers; gone = p.gone; links = p.links ++ 
 
 -- one that began and ended: its range goes from the end that its peer's list had before to the one that it has behind
 abbrev pub with_link_within : ℕ → List (Option FarEnd) → List (Option FarEnd) → Peers → Peers
-with_link_within n before behind p = with_link (record { peer = n; start = accepted_at n p before; end = Some (accepted_at n p behind) }) p
+with_link_within n before behind p =
+    with_link (record { peer = n; start = accepted_at n p before; end = Some (accepted_at n p behind) }) p
 
 -- so it is to the peer with a number, where one has it
 abbrev pub with_link_if : Option ℕ → List (Option FarEnd) → List (Option FarEnd) → Peers → Peers

@@ -1,5 +1,6 @@
 -- What obeying a command does.
-use Rattle.std.specs.Prelude.{◌≡◌, ℕ, List, [], ◌∷◌, ◌++◌, map, length, get_or, slice_set, zero, suc, Bool, true, false, Option, Some, None, Result, IsErrOf}
+use Rattle.std.specs.Prelude.{◌≡◌, ℕ, List, [], ◌∷◌, ◌++◌, map, length, get_or, slice_set, zero, suc, Bool, true, false}
+use Rattle.std.specs.Prelude.{Option, Some, None, Result, IsErrOf}
 use Rattle.std.specs.List.{remove}
 use Rattle.nfc_base.specs.declared.event.Event.{Event}
 use Rattle.air_core.specs.Turn.{Air}
@@ -11,7 +12,8 @@ use Rattle.bench_script.specs.declared.command.Command.TheVariants.{Skip}
 use Rattle.bench_devices.specs.declared.device.Device.{Device}
 use Rattle.bench_world.specs.declared.entry.Answer.{Answer}
 use Rattle.bench_world.specs.declared.entry.Entry.{Entry}
-use Rattle.bench_world.specs.Legal.{State, Given, Joins, Accepts, AnswerLaw, FrontOf, LegalStep, CutShort, due, first_state, no_joins}
+use Rattle.bench_world.specs.Legal.{State, Given, Joins, Accepts, AnswerLaw, FrontOf, LegalStep, CutShort, due}
+use Rattle.bench_world.specs.Legal.{first_state, no_joins}
 use Rattle.bench_world.specs.Halting.{CutOff}
 use Rattle.bench_devices.specs.Keeping.{AreTame, kept}
 use Rattle.bench_devices.specs.Phases.{AreTidy, IsIdle}
@@ -46,7 +48,13 @@ under ends peers link a = record { air = a; ends = ends; peers = peers; link = l
 
 -- The state that machines are in: a far end is whole while its device has a link, and else there is of it what stays.
 abbrev pub state_at : Machines → State
-state_at m = record { world = seen device_linked peer_ends (record { lit = m.air.lit; listeners = m.air.listeners }) m.ends []; queue = m.air.fates; peers = m.peers; link = m.link }
+state_at m =
+    record {
+      world = seen device_linked peer_ends (record { lit = m.air.lit; listeners = m.air.listeners }) m.ends [];
+      queue = m.air.fates;
+      peers = m.peers;
+      link = m.link;
+    }
 
 -- whether the device at a place has a link
 abbrev pub linked_at : ℕ → List Device → Bool
@@ -75,8 +83,8 @@ pub record HasPlaces (m : Machines) : Type 0 where
 abbrev pub KeepsLink : Machines → Type 0
 KeepsLink m = IfLinked m.link (λ l. IsOpen m.air m.ends m.peers l) (Unit {0})
 
--- Between two commands the field is idle, each device has its place, and the open link stands. Each Type 3 tag has a store that a new
--- tag may have.
+-- Between two commands the field is idle, each device has its place, and the open link stands. Each Type 3 tag has a
+-- store that a new tag may have.
 pub record IsSettled (m : Machines) : Type 0 where
   pub idle : IsIdle m.air
   pub stored : AreWellStored m.air.listeners
@@ -85,12 +93,22 @@ pub record IsSettled (m : Machines) : Type 0 where
 
 -- the machines, of which nothing is in the trace
 abbrev pub untraced : Machines → Machines
-untraced m = record { air = record { lit = m.air.lit; listeners = m.air.listeners; fates = m.air.fates; trace = [] }; ends = m.ends; peers = m.peers; link = m.link }
+untraced m = record {
+  air = record { lit = m.air.lit; listeners = m.air.listeners; fates = m.air.fates; trace = [] };
+  ends = m.ends;
+  peers = m.peers;
+  link = m.link;
+}
 
 -- one device more, dark, and its far end; so these are the peers now
 abbrev pub put_in : Machines → Device → Option FarEnd → Peers → Machines
 put_in m d end peers = record {
-  air = record { lit = m.air.lit; listeners = m.air.listeners ++ device_darkened d ∷ []; fates = m.air.fates; trace = m.air.trace };
+  air = record {
+    lit = m.air.lit;
+    listeners = m.air.listeners ++ device_darkened d ∷ [];
+    fates = m.air.fates;
+    trace = m.air.trace;
+  };
   ends = m.ends ++ end ∷ [];
   peers = peers;
   link = m.link;
@@ -157,21 +175,25 @@ IsCutOff = IsCutOffBy no_joins
 
 -- A command of the field alone has no part in far ends and links: so it is, whatever stands above the field.
 abbrev pub RefusedBelow : {X : Type 0} → Result X ObeyFault → Air Device → Command → Type 0
-RefusedBelow r a c = IsErrOf r faults.Refused → (ends : List (Option FarEnd)) (peers : Peers) (link : Option OpenLink) → Accepts (state_at (under ends peers link a)) c → ⊥
+RefusedBelow r a c = IsErrOf r faults.Refused → (ends : List (Option FarEnd)) (peers : Peers) (link : Option OpenLink)
+    → Accepts (state_at (under ends peers link a)) c → ⊥
 
 abbrev pub ObeyedBelow : Air Device → Air Device → Command → Answer → Type 0
 ObeyedBelow old new c answer =
-    (ends : List (Option FarEnd)) (peers : Peers) (link : Option OpenLink) → HasPlaces (under ends peers link old) → KeepsLink (under ends peers link old)
+    (ends : List (Option FarEnd)) (peers : Peers) (link : Option OpenLink) → HasPlaces (under ends peers link old)
+    → KeepsLink (under ends peers link old)
     → Obeyed (under ends peers link old) (under ends peers link new) c answer
 
 -- So it is of a command that begins with a reset, once no link is open.
 abbrev pub ObeyedUnlinked : Air Device → Air Device → Command → Answer → Type 0
 ObeyedUnlinked old new c answer =
-    (ends : List (Option FarEnd)) (peers : Peers) → HasPlaces (under ends peers None old) → Obeyed (under ends peers None old) (under ends peers None new) c answer
+    (ends : List (Option FarEnd)) (peers : Peers) → HasPlaces (under ends peers None old)
+    → Obeyed (under ends peers None old) (under ends peers None new) c answer
 
 abbrev pub CutOffUnlinked : Air Device → Air Device → Command → Type 0
 CutOffUnlinked old new c =
-    (ends : List (Option FarEnd)) (peers : Peers) → CutShort no_joins (state_at (under ends peers None old)) c new.trace (state_at (under ends peers None new))
+    (ends : List (Option FarEnd)) (peers : Peers) → CutShort no_joins (state_at (under ends peers None old)) c new.trace
+    (state_at (under ends peers None new))
 
 -- What contracts see of a bench: the journals of its finished runs, in order; the journal of the run that goes on; the
 -- state that its machines are in; what happened in a command that want of memory cut off, since its last entry; and
@@ -208,8 +230,8 @@ abbrev pub Obeys : Benched → Benched → ℕ → Command → Type 0
 Obeys old new line Skip = (old.spoiled ≡ false) × (new ≡ old)
 Obeys old new line c = Adds old new line c
 
--- Want of memory spoiled the bench: the journal stays, and of the command there is at most a front of its step. What tags
--- hold is left as an unfinished command leaves it.
+-- Want of memory spoiled the bench: the journal stays, and of the command there is at most a front of its step. What
+-- tags hold is left as an unfinished command leaves it.
 pub record Spoils (old new : Benched) (c : Command) : Type 0 where
   pub state : State
   pub cut : List Event

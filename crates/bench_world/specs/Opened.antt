@@ -30,7 +30,8 @@ pub record IsServed (number : Option ℕ) (above : Option FarEnd) : Type 0 where
 -- so each peer has of these devices, by what stands at their places
 abbrev pub AreServed : List Device → List (Option ℕ) → List (Option FarEnd) → Type 0
 AreServed [] ps os = Unit {0}
-AreServed (d ∷ ds) ps os = (is_tag d ≡ false → IsServed (first_far ps) (first_far os)) × AreServed ds (later_fars ps) (later_fars os)
+AreServed (d ∷ ds) ps os = (is_tag d ≡ false → IsServed (first_far ps) (first_far os))
+    × AreServed ds (later_fars ps) (later_fars os)
 
 -- No two of these have one number, and each is below this.
 abbrev pub IsBelow : ℕ → Option ℕ → Type 0

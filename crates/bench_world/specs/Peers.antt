@@ -1,6 +1,7 @@
 -- Peers among the devices of a bench: their numbers, the links that they had, and their far ends (NFC Forum LLCP 1.3,
 -- SNEP 1.0; the numbers of peers and links are this project's own).
-use Rattle.std.specs.Prelude.{ℕ, List, [], ◌∷◌, ◌++◌, length, slice_set, codes, nat_eq, if◌then◌else◌, Option, Some, None, option_map}
+use Rattle.std.specs.Prelude.{ℕ, List, [], ◌∷◌, ◌++◌, length, slice_set, codes, nat_eq, if◌then◌else◌, Option, Some}
+use Rattle.std.specs.Prelude.{None, option_map}
 use Rattle.std.specs.Cmp.Lexicographic.{pointwise}
 use Rattle.llcp_link.specs.State.{Bound, fresh_end}
 use Rattle.snep_core.specs.Server.{fresh_server, offered}
@@ -39,18 +40,21 @@ with_peer p = record { numbers = p.numbers ++ Some (next_number p) ∷ []; gone 
 -- their order
 abbrev pub without_place : {X : Type 0} → List ℕ → List Device → List (Option X) → List (Option X)
 without_place id [] xs = xs
-without_place id (d ∷ ds) xs = if pointwise nat_eq (device_id d) id then later_fars xs else first_far xs ∷ without_place id ds (later_fars xs)
+without_place id (d ∷ ds) xs = if pointwise nat_eq (device_id d) id then later_fars xs
+    else first_far xs ∷ without_place id ds (later_fars xs)
 
 -- what stands at the place of the first device that has an identifier
 abbrev pub placed_under : {X : Type 0} → List ℕ → List Device → List (Option X) → Option X
 placed_under id [] xs = None
-placed_under id (d ∷ ds) xs = if pointwise nat_eq (device_id d) id then first_far xs else placed_under id ds (later_fars xs)
+placed_under id (d ∷ ds) xs = if pointwise nat_eq (device_id d) id then first_far xs
+    else placed_under id ds (later_fars xs)
 
 -- what stands at the places of devices, that at the place of the first device with an identifier being changed so
 abbrev pub with_place_changed : {X : Type 0} → (X → X) → List ℕ → List Device → List (Option X) → List (Option X)
 with_place_changed change id [] xs = xs
 with_place_changed change id (d ∷ ds) xs =
-    if pointwise nat_eq (device_id d) id then option_map change (first_far xs) ∷ later_fars xs else first_far xs ∷ with_place_changed change id ds (later_fars xs)
+    if pointwise nat_eq (device_id d) id then option_map change (first_far xs) ∷ later_fars xs
+    else first_far xs ∷ with_place_changed change id ds (later_fars xs)
 
 -- this under a number, where there is one
 abbrev pub set_under : {X : Type 0} → Option ℕ → X → List X → List X

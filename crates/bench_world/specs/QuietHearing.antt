@@ -6,7 +6,8 @@ use Rattle.nfc_base.specs.Trace.{noise}
 use Rattle.nfc_base.specs.declared.event.Fate.{Fate}
 use Rattle.air_core.specs.Conversation.{Note, receptions}
 use Rattle.bench_script.specs.declared.command.Command.{Command}
-use Rattle.bench_script.specs.declared.command.Command.TheVariants.{Fates, Find, Crowd, Poll3, Read, Read3, Write, Write3, Link, Forge}
+use Rattle.bench_script.specs.declared.command.Command.TheVariants.{Fates, Find, Crowd, Poll3, Read, Read3, Write}
+use Rattle.bench_script.specs.declared.command.Command.TheVariants.{Write3, Link, Forge}
 use Rattle.bench_script.specs.declared.command.DeviceId.{DeviceId}
 use Rattle.bench_script.specs.declared.command.DeviceId.TheVariants.{A}
 use Rattle.bench_script.specs.DeviceIds.{bytes_of}
@@ -67,7 +68,8 @@ sought_by c = None
 
 -- Behind the search for a Type 3 tag each note of an entry is a whole answer.
 abbrev pub AnswersSought : List ℕ → Entry → Type 0
-AnswersSought id e = (behind : List Note) → seeking id (receptions e.events) ≡ Told (Ok tt) behind → AllByRecursion IsAnswered behind
+AnswersSought id e = (behind : List Note) → seeking id (receptions e.events) ≡ Told (Ok tt) behind
+    → AllByRecursion IsAnswered behind
 
 -- In an entry nothing was damaged or lost: no reception is bad but silences. Behind the selection of its device each is
 -- a whole answer, and so is each of what is asked on a link, so those silences are polling's.
@@ -83,7 +85,8 @@ IsHeardIfQuiet s e t = AllPass (changed s e.command).queue → IsWellHeard e
 -- Each entry of a script's journal is heard so, from which on no fate is left but Pass.
 abbrev pub QuietHears : Type 0
 QuietHears =
-    (lines : List (List ℕ)) (numbers : List Joins) (journal : List Entry) (last : State) → LeadsTo lines numbers journal last
+    (lines : List (List ℕ)) (numbers : List Joins) (journal : List Entry) (last : State)
+    → LeadsTo lines numbers journal last
     → AllAlong IsHeardIfQuiet first_state numbers journal
 
 -- A line that appends fates appends nothing but Pass.
@@ -104,20 +107,24 @@ pub record WritesPlaced (s : State) (e : Entry) (id : DeviceId) (m : Msg) (d : D
 
 -- An entry of a script without noise: everything passed; a read of a placed tag tells what its store holds, a write
 -- what it comes to, which is success where the tag takes the message and none of its blocks is locked, a search lists
--- the whole field, and one for Type 5 or Type 3 tags all of these; a placed peer is linked, and replies to each payload that is sent to it by hand; of each frame that is
--- sent to a placed device by hand it is told what was heard, and a silence may come of any of them; and each command on the open link is answered as the peer answers it.
+-- the whole field, and one for Type 5 or Type 3 tags all of these; a placed peer is linked, and replies to each payload
+-- that is sent to it by hand; of each frame that is sent to a placed device by hand it is told what was heard, and a
+-- silence may come of any of them; and each command on the open link is answered as the peer answers it.
 pub record IsQuietEntry (s : State) (e : Entry) (t : State) : Type 0 where
   pub quiet : noise e.events ≡ 0
   pub hears : IsWellHeard e
   pub reads : (id : DeviceId) (d : Device) → ReadsPlaced s e id d → TellsOf d e.answer
   pub writes : (id : DeviceId) (m : Msg) (d : Device) → WritesPlaced s e id m d → TellsWrite (message_of m) d e.answer
-  pub written : (id : DeviceId) (m : Msg) (d : Device) → WritesPlaced s e id m d → MayBeWritten (message_of m) d → e.answer ≡ answers.Written
+  pub written : (id : DeviceId) (m : Msg) (d : Device) → WritesPlaced s e id m d → MayBeWritten (message_of m) d
+      → e.answer ≡ answers.Written
   pub finds : e.command ≡ Find → e.answer ≡ whole_field s.world.field.listeners
   pub tags : e.command ≡ Crowd → TellsTags s.world.field.listeners e.answer
   pub threes : e.command ≡ Poll3 → e.answer ≡ three_told (sensed_of s.world.field.listeners)
   pub reads3 : (id : List ℕ) (d : Device) → e.command ≡ Read3 id → IsPlaced3 s id d → TellsRead3 d e.answer
-  pub writes3 : (id : List ℕ) (m : Msg) (d : Device) → e.command ≡ Write3 id m → IsPlaced3 s id d → TellsWrite3 (message_of m) d e.answer
-  pub written3 : (id : List ℕ) (m : Msg) (d : Device) → e.command ≡ Write3 id m → IsPlaced3 s id d → ShowsThreeWriteOf (message_of m) d (Ok tt) → e.answer ≡ answers.Written
+  pub writes3 : (id : List ℕ) (m : Msg) (d : Device) → e.command ≡ Write3 id m → IsPlaced3 s id d
+      → TellsWrite3 (message_of m) d e.answer
+  pub written3 : (id : List ℕ) (m : Msg) (d : Device) → e.command ≡ Write3 id m → IsPlaced3 s id d
+      → ShowsThreeWriteOf (message_of m) d (Ok tt) → e.answer ≡ answers.Written
   pub links : LinksQuietly s e
   pub forges : ForgesQuietly s e
   pub raws : RawsQuietly s e
@@ -126,5 +133,6 @@ pub record IsQuietEntry (s : State) (e : Entry) (t : State) : Type 0 where
 -- Where no line has another fate than Pass, each entry is one.
 abbrev pub QuietScript : Type 0
 QuietScript =
-    (lines : List (List ℕ)) (numbers : List Joins) (journal : List Entry) (last : State) → LeadsTo lines numbers journal last
+    (lines : List (List ℕ)) (numbers : List Joins) (journal : List Entry) (last : State)
+    → LeadsTo lines numbers journal last
     → AllByRecursion IsQuietLine lines → AllAlong IsQuietEntry first_state numbers journal

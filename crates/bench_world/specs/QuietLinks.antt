@@ -39,9 +39,10 @@ abbrev pub GainsBy : LinkAsking → FarEnd → List Received → Type 0
 GainsBy (Does (Putting ws)) end more = GainsAll ws end.service.limit more
 GainsBy asked end more = more ≡ []
 
--- What was asked is told as the peer tells it, and the list of the peer's server gains just that at its end. Of other far
--- ends nothing that stays changes.
-pub record IsQuietly (s : State) (l : OpenLink) (asked : LinkAsking) (answer : Answer) (t : State) (end : FarEnd) : Type 0 where
+-- What was asked is told as the peer tells it, and the list of the peer's server gains just that at its end. Of other
+-- far ends nothing that stays changes.
+pub record IsQuietly (s : State) (l : OpenLink) (asked : LinkAsking) (answer : Answer) (t : State) (end : FarEnd)
+    : Type 0 where
   pub told : answer ≡ peer_answer asked end
   pub more : List Received
   pub gains : GainsBy asked end more
@@ -67,9 +68,11 @@ QuietTalks = (s t : State) (g : Given) (e : Entry) → LegalStep s g e t → All
 
 -- A placed peer is linked, and a tag tells that it has no link as peers do.
 abbrev pub LinksQuietly : State → Entry → Type 0
-LinksQuietly s e = (id : List ℕ) (miu window : ℕ) (d : Device) → OpensPlaced s e id miu window d → e.answer ≡ link_answer (length s.peers.links + 1) d
+LinksQuietly s e = (id : List ℕ) (miu window : ℕ) (d : Device) → OpensPlaced s e id miu window d
+    → e.answer ≡ link_answer (length s.peers.links + 1) d
 
 -- So does an entry wherever the lines of a script lead.
 abbrev pub QuietLinkings : Type 0
 QuietLinkings =
-    (lines : List (List ℕ)) (numbers : List Joins) (journal : List Entry) (s t : State) (g : Given) (e : Entry) → LeadsTo lines numbers journal s → LegalStep s g e t → AllPass s.queue → LinksQuietly s e
+    (lines : List (List ℕ)) (numbers : List Joins) (journal : List Entry) (s t : State) (g : Given) (e : Entry)
+    → LeadsTo lines numbers journal s → LegalStep s g e t → AllPass s.queue → LinksQuietly s e

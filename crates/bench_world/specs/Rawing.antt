@@ -1,6 +1,7 @@
--- What is due while frames of a script's own are sent to a device, and what is answered (NFCIP-1, ISO/IEC 18092; NFC Forum Digital
--- Protocol; that each frame is sent once, whatever is heard of it, is this project's own).
-use Rattle.std.specs.Prelude.{◌≡◌, ◌↔◌, ℕ, suc, ◌<◌, nat_lt, List, [], ◌∷◌, ◌++◌, Bool, true, false, if◌then◌else◌, Option, Some, None, Result, Ok, Err}
+-- What is due while frames of a script's own are sent to a device, and what is answered (NFCIP-1, ISO/IEC 18092; NFC
+-- Forum Digital Protocol; that each frame is sent once, whatever is heard of it, is this project's own).
+use Rattle.std.specs.Prelude.{◌≡◌, ◌↔◌, ℕ, suc, ◌<◌, nat_lt, List, [], ◌∷◌, ◌++◌, Bool, true, false, if◌then◌else◌}
+use Rattle.std.specs.Prelude.{Option, Some, None, Result, Ok, Err}
 use Rattle.nfc_base.specs.Signal.{Signal}
 use Rattle.nfc_base.specs.Trace.{breaks, noise}
 use Rattle.nfc_base.specs.declared.carrier.EndCause.{EndCause}
@@ -37,9 +38,9 @@ raw_heard (Collided f) = raws.Clash
 raw_heard Damaged = raws.Damaged
 raw_heard Silent = raws.Silent
 
--- Where it stands once a device is selected: ATR_REQ, which a peer is asked first, had so many bad receptions; its wait ended by
--- a fault; this was heard of the frames so far, and those are left; the field was lost at a frame; or something was heard that
--- belongs to none of this.
+-- Where it stands once a device is selected: ATR_REQ, which a peer is asked first, had so many bad receptions; its wait
+-- ended by a fault; this was heard of the frames so far, and those are left; the field was lost at a frame; or
+-- something was heard that belongs to none of this.
 pub data Rawing : Type 0 where
   Activates : ℕ → Rawing
   Unlinked : EndCause → Rawing
@@ -127,7 +128,8 @@ raw_linked_then frames _ = false
 abbrev pub raw_opens : DeviceId → List Signal → List Event → Bool
 raw_opens id frames events = raw_linked_then frames (selecting id (receptions events))
 
--- the answer by where it stands: what was heard of each frame, that the field was lost at one, or by what activating ended
+-- the answer by where it stands: what was heard of each frame, that the field was lost at one, or by what activating
+-- ended
 abbrev pub told_rawing : Rawing → Option Answer
 told_rawing (Sends heard []) = Some (answers.Heard heard)
 told_rawing (Sends heard (f ∷ left)) = None
@@ -141,9 +143,11 @@ abbrev pub RawEnds : List Signal → Result SeenKind PollFault → List Note →
 RawEnds frames (Ok kind) behind answer = told_rawing (raw_behind frames kind behind) ≡ Some answer
 RawEnds frames (Err e) behind answer = poll_answer e ≡ Some answer
 
--- The law of the answer, over the devices that are placed: first a device is selected, then, if it is a peer, it is activated, and
--- each frame is sent once. The field is lost exactly where a Break was used, and without noise no wait has six bad receptions.
-pub record RawTells (id : DeviceId) (ds : List Device) (frames : List Signal) (events : List Event) (answer : Answer) : Type 0 where
+-- The law of the answer, over the devices that are placed: first a device is selected, then, if it is a peer, it is
+-- activated, and each frame is sent once. The field is lost exactly where a Break was used, and without noise no wait
+-- has six bad receptions.
+pub record RawTells (id : DeviceId) (ds : List Device) (frames : List Signal) (events : List Event) (answer : Answer)
+    : Type 0 where
   pub polled : Result SeenKind PollFault
   pub behind : List Note
   pub selected : selecting id (receptions events) ≡ Told polled behind

@@ -26,8 +26,10 @@ AreOnAir (Clash f x ∷ es) = IsSignal f × AreOnAir es
 -- does.
 abbrev pub LinesTellEvents : Type 0
 LinesTellEvents =
-    (t : Tech) (n k : ℕ) (e f : Event) → n < 2 ^ 32 → k < 2 ^ 32 → IsOf t e → IsOf t f → line_text n (event_text e) ≡ line_text k (event_text f) → (n ≡ k) × (e ≡ f)
+    (t : Tech) (n k : ℕ) (e f : Event) → n < 2 ^ 32 → k < 2 ^ 32 → IsOf t e → IsOf t f
+    → line_text n (event_text e) ≡ line_text k (event_text f) → (n ≡ k) × (e ≡ f)
 
 -- no answer's line is an event's
 abbrev pub AnswersApart : Type 0
-AnswersApart = (n k : ℕ) (e : Event) (a : Said) → n < 2 ^ 32 → k < 2 ^ 32 → line_text n (event_text e) ≡ line_text k (answer_text a) → ⊥
+AnswersApart = (n k : ℕ) (e : Event) (a : Said) → n < 2 ^ 32 → k < 2 ^ 32
+    → line_text n (event_text e) ≡ line_text k (answer_text a) → ⊥

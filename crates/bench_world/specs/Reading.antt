@@ -15,7 +15,8 @@ use Rattle.bench_world.specs.declared.entry.Answer.TheVariants as answers
 
 -- What a read answers, by the form of the store. The other answers tell of none.
 abbrev pub Tells : How → ℕ → List ℕ → Answer → Type 0
-Tells how size store (answers.Message message writable) = IsStoreForm how size store (Message message) × IsAccess how size store writable
+Tells how size store (answers.Message message writable) =
+    IsStoreForm how size store (Message message) × IsAccess how size store writable
 Tells how size store answers.NotNdef = IsStoreForm how size store (Faulty container.NotNdef)
 Tells how size store answers.Version = IsStoreForm how size store (Faulty container.Version)
 Tells how size store answers.NoRead = IsStoreForm how size store (Faulty container.NoRead)
@@ -27,7 +28,8 @@ Tells how size store answer = ⊥
 
 -- A read of a tag tells of its store, and one of a peer that it is none.
 abbrev pub TellsOf : Device → Answer → Type 0
-TellsOf d answer = IfRead (kind_of d) (Tells (how_of d) (size_of d) (device_store d) answer) (answer ≡ answers.WrongKind)
+TellsOf d answer = IfRead (kind_of d) (Tells (how_of d) (size_of d) (device_store d) answer)
+    (answer ≡ answers.WrongKind)
 
 -- what a read asks of a device that was selected: nothing of a peer
 abbrev pub ReadAsks : Device → List Signal → Type 0

@@ -1,5 +1,6 @@
 -- The report: the text of an entry, by the entry alone. Its form is this project's own.
-use Rattle.std.specs.Prelude.{◌≡◌, ℕ, ◌/◌, ◌%◌, ◌<◌, Option, Some, None, List, [], ◌∷◌, ◌++◌, codes, length, ◌==◌, if◌then◌else◌, Bool, true, false}
+use Rattle.std.specs.Prelude.{◌≡◌, ℕ, ◌/◌, ◌%◌, ◌<◌, Option, Some, None, List, [], ◌∷◌, ◌++◌, codes, length, ◌==◌}
+use Rattle.std.specs.Prelude.{if◌then◌else◌, Bool, true, false}
 use Rattle.std.specs.List.{flat_map}
 use Rattle.std.specs.Fmt.{decimal}
 use Rattle.arrayvec.specs.ArrayVec.{ArrayVec}
@@ -10,7 +11,13 @@ use Rattle.nfc_base.specs.declared.event.Event.TheVariants.{Reset, Request, Answ
 use Rattle.nfc_base.specs.declared.event.Fate.{Fate}
 use Rattle.nfc_base.specs.declared.event.Fate.TheVariants.{Pass, Damage, Lose, Break}
 use Rattle.bench_world.specs.declared.entry.Answer.{Answer as Said}
-use Rattle.bench_world.specs.declared.entry.Answer.TheVariants.{Done, Store, Found, Crowd, T3None, T3One, T3Crowd, Message, NotNdef, Version, NoRead, Sectors, BadSize, NoMessageTlv, BadTlv, Unfinished, Disturbed, FieldLost, NotFound, SixBad, Written, Refused, ReadOnly, TooLong, ShortMlc, WrongKind, Inbox, Linked, Success, Reject, Value, NoValue, Excess, NotImplemented, Sap, LinkEnded, Replies, Heard, Puts, Unlinked, NoLink}
+use Rattle.bench_world.specs.declared.entry.Answer.TheVariants.{Done, Store, Found, Crowd, T3None, T3One, T3Crowd}
+use Rattle.bench_world.specs.declared.entry.Answer.TheVariants.{Message, NotNdef, Version, NoRead, Sectors, BadSize}
+use Rattle.bench_world.specs.declared.entry.Answer.TheVariants.{NoMessageTlv, BadTlv, Unfinished, Disturbed, FieldLost}
+use Rattle.bench_world.specs.declared.entry.Answer.TheVariants.{NotFound, SixBad, Written, Refused, ReadOnly, TooLong}
+use Rattle.bench_world.specs.declared.entry.Answer.TheVariants.{ShortMlc, WrongKind, Inbox, Linked, Success, Reject}
+use Rattle.bench_world.specs.declared.entry.Answer.TheVariants.{Value, NoValue, Excess, NotImplemented, Sap, LinkEnded}
+use Rattle.bench_world.specs.declared.entry.Answer.TheVariants.{Replies, Heard, Puts, Unlinked, NoLink}
 use Rattle.bench_world.specs.declared.entry.Entry.{Entry}
 use Rattle.bench_world.specs.declared.entry.Loss.{Loss}
 use Rattle.bench_world.specs.declared.entry.Loss.TheVariants as losses
@@ -65,7 +72,8 @@ code_text code = encode_upper (code / 256 ∷ code % 256 ∷ [])
 
 -- how many devices were found, and which
 abbrev pub found_text : List Seen → Bool → List ℕ
-found_text devices crowd = codes "found " ++ decimal (length devices) ++ flat_map seen_text devices ++ (if crowd then codes " crowd" else [])
+found_text devices crowd = codes "found " ++ decimal (length devices) ++ flat_map seen_text devices
+    ++ (if crowd then codes " crowd" else [])
 
 -- how many Type 5 tags were found, and which
 abbrev pub tag_text : List ℕ → List ℕ

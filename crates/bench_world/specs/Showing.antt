@@ -1,5 +1,6 @@
 -- Numbers of PDUs that events show are as good as the true ones, for one step of a bench, whatever stands behind these
--- events: ends may join PDUs as they like (NFC Forum LLCP 1.3); that numbers are read off a trace is this project's own.
+-- events: ends may join PDUs as they like (NFC Forum LLCP 1.3); that numbers are read off a trace is this project's
+-- own.
 use Rattle.std.specs.Prelude.{◌≡◌, ℕ, List, [], ◌++◌, Option, Some, None}
 use Rattle.nfc_base.specs.Trace.{back_of}
 use Rattle.nfc_base.specs.Trace as backs
@@ -55,8 +56,8 @@ pub record BeginsSame (es rest fs : List Event) : Type 0 where
   pub ends : rest ≡ [] → other ≡ []
   pub ended : other ≡ [] → back_of rest ≡ backs.Nothing → rest ≡ []
 
--- Numbers show in each command, but of frames that are written by hand only where no peer is placed: else one may cut off
--- a reply while its link goes on.
+-- Numbers show in each command, but of frames that are written by hand only where no peer is placed: else one may cut
+-- off a reply while its link goes on.
 abbrev pub MayShowAmong : List Device → Command → Type 0
 MayShowAmong ds (Raw id frames) = peers_in ds ≡ 0
 MayShowAmong ds c = Unit {0}

@@ -1,6 +1,6 @@
 -- The numbers of PDUs that events show of payloads that were written by hand: they are sent over a link of their own,
--- whose PNIs count from 0 behind its ATR_RES (NFCIP-1, ISO/IEC 18092; that numbers are read off a trace is this project's
--- own).
+-- whose PNIs count from 0 behind its ATR_RES (NFCIP-1, ISO/IEC 18092; that numbers are read off a trace is this
+-- project's own).
 use Rattle.std.specs.Prelude.{List, [], ◌∷◌, if◌then◌else◌}
 use Rattle.nfc_base.specs.declared.event.Event.{Event}
 use Rattle.nfc_base.specs.declared.event.Event.TheVariants.{Reset, Request, Answer, Clash}

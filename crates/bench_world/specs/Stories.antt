@@ -1,7 +1,8 @@
 -- The story of each link of a bench: how it was opened and to which end, what happened while it was open, what was put
 -- on it and how that was told, and what its peer accepted on it (NFC Forum SNEP 1.0; that links have numbers is this
 -- project's own). A later command adds its case.
-use Rattle.std.specs.Prelude.{ℕ, ◌+◌, zero, suc, drop, get_or, length, List, [], ◌∷◌, ◌++◌, if◌then◌else◌, Option, Some, None}
+use Rattle.std.specs.Prelude.{ℕ, ◌+◌, zero, suc, drop, get_or, length, List, [], ◌∷◌, ◌++◌, if◌then◌else◌, Option, Some}
+use Rattle.std.specs.Prelude.{None}
 use Rattle.nfc_base.specs.declared.event.Event.{Event}
 use Rattle.dep_link.specs.DepLinks.{brought}
 use Rattle.llcp_link.specs.State.{restarted}
@@ -41,8 +42,8 @@ pub record Stretch : Type 0 where
 abbrev pub stretch_of : Joins → Entry → Stretch
 stretch_of joins e = record { command = e.command; joins = joins; events = e.events; told = Some e.answer }
 
--- how a link was opened: by the command `link`, and so between two ends of this project; by `forge`, which sends payloads
--- that were written by hand; or by `raw`, which sends frames that were
+-- how a link was opened: by the command `link`, and so between two ends of this project; by `forge`, which sends
+-- payloads that were written by hand; or by `raw`, which sends frames that were
 pub data Opener : Type 0 where
   ByLink : Opener
   ByForge : Opener
@@ -54,9 +55,9 @@ pub record LinkPut : Type 0 where
   pub put : Put
 
 -- The story of a link: its number; how it was opened; its peer, by its number among the peers; the general bytes that
--- were said to it, and its end as the link began; what happened in the entries behind, while the link was open, or, of a
--- link that began and ended within an entry, in that one; what arrived at its peer by that; what was put on it, in order;
--- and what the peer's list of accepted messages gained on it so far.
+-- were said to it, and its end as the link began; what happened in the entries behind, while the link was open, or, of
+-- a link that began and ended within an entry, in that one; what arrived at its peer by that; what was put on it, in
+-- order; and what the peer's list of accepted messages gained on it so far.
 pub record Story : Type 0 where
   pub number : ℕ
   pub opener : Opener
@@ -75,7 +76,8 @@ told_in_order ws (Some answer) = told_each ws answer
 
 -- each is put from the SAP of its slot
 abbrev pub puts_told : List SlotMessage → List Told → List LinkPut
-puts_told (w ∷ ws) (t ∷ ts) = record { source = sap_of_slot w.slot; put = record { message = w.message; told = t } } ∷ puts_told ws ts
+puts_told (w ∷ ws) (t ∷ ts) = record { source = sap_of_slot w.slot; put = record { message = w.message; told = t } }
+    ∷ puts_told ws ts
 puts_told _ _ = []
 
 -- what a stretch puts
@@ -146,20 +148,22 @@ abbrev pub open_goes_on : Option OpenLink → (Story → Story) → List Story �
 open_goes_on None go ys = ys
 open_goes_on (Some l) go ys = last_goes_on go ys
 
--- How a link begins in a stretch, if one does: `linked` tells its number, these general bytes were said to its peer, and
--- it is open behind the stretch; or it was opened so to the peer with an identifier, by these general bytes, and is over
--- where the stretch is.
+-- How a link begins in a stretch, if one does: `linked` tells its number, these general bytes were said to its peer,
+-- and it is open behind the stretch; or it was opened so to the peer with an identifier, by these general bytes, and is
+-- over where the stretch is.
 pub data Beginning : Type 0 where
   NothingBegins : Beginning
   BeginsOpen : ℕ → List ℕ → Beginning
   BeginsAndEnds : Opener → List ℕ → List ℕ → Beginning
 
--- What begins in a command, by what happened in it and what was told: where `linked` is told, this link; and in a `forge`,
--- whatever it then tells, and in a `raw` of a peer, one that is over, where its ATR_REQ was answered.
+-- What begins in a command, by what happened in it and what was told: where `linked` is told, this link; and in a
+-- `forge`, whatever it then tells, and in a `raw` of a peer, one that is over, where its ATR_REQ was answered.
 abbrev pub beginning : Command → List Event → Option Answer → Beginning
 beginning (commands.Link id miu window) events (Some (answers.Linked number)) = BeginsOpen number (own_general miu)
-beginning (commands.Forge id payloads) events told = if opens_link id payloads events then BeginsAndEnds ByForge id forged_general else NothingBegins
-beginning (commands.Raw id frames) events told = if raw_opens id frames events then BeginsAndEnds ByRaw (bytes_of id) forged_general else NothingBegins
+beginning (commands.Forge id payloads) events told = if opens_link id payloads events
+    then BeginsAndEnds ByForge id forged_general else NothingBegins
+beginning (commands.Raw id frames) events told = if raw_opens id frames events
+    then BeginsAndEnds ByRaw (bytes_of id) forged_general else NothingBegins
 beginning c events told = NothingBegins
 
 abbrev pub begins_in : Stretch → Beginning
@@ -188,11 +192,12 @@ abbrev pub story_if : ℕ → List ℕ → Option OpenLink → State → List St
 story_if number general None t = []
 story_if number general (Some l) t = story_of number general l.peer (peer_end_of t l)
 
--- A link that is over where its stretch is has the next number. Its peer's end, which stood so, began it with its general
--- bytes; and its story is what happened in the stretch.
+-- A link that is over where its stretch is has the next number. Its peer's end, which stood so, began it with its
+-- general bytes; and its story is what happened in the stretch.
 abbrev pub whole_of : Opener → List ℕ → ℕ → ℕ → Option FarEnd → (Story → Story) → List Story
 whole_of opener general number peer None go = []
-whole_of opener general number peer (Some old) go = go (new_story number opener peer general (restarted serving old general)) ∷ []
+whole_of opener general number peer (Some old) go = go
+    (new_story number opener peer general (restarted serving old general)) ∷ []
 
 abbrev pub story_within : Opener → List ℕ → Option ℕ → (Story → Story) → State → List Story
 story_within opener general None go s = []
@@ -209,7 +214,8 @@ begun_by (BeginsAndEnds opener id general) go s t =
 -- The stories behind a stretch. A link is open in it that was open once its command changed what it itself changes: one
 -- that begins with a reset ended it.
 abbrev pub stories_behind : State → Stretch → State → List Story → List Story
-stories_behind s x t ys = open_goes_on (changed s x.command).link (goes_on s x t) ys ++ begun_by (begins_in x) (goes_on s x t) s t
+stories_behind s x t ys = open_goes_on (changed s x.command).link (goes_on s x t) ys
+    ++ begun_by (begins_in x) (goes_on s x t) s t
 
 -- the state behind an entry, by its numbers of PDUs
 abbrev pub state_behind : State → Joins → Entry → State
@@ -224,7 +230,8 @@ state_from s (n ∷ ns) (e ∷ es) = state_from (state_behind s n e) ns es
 abbrev pub stories_from : State → List Story → List Joins → List Entry → List Story
 stories_from s ys [] es = ys
 stories_from s ys (n ∷ ns) [] = ys
-stories_from s ys (n ∷ ns) (e ∷ es) = stories_from (state_behind s n e) (stories_behind s (stretch_of n e) (state_behind s n e) ys) ns es
+stories_from s ys (n ∷ ns) (e ∷ es) = stories_from (state_behind s n e)
+    (stories_behind s (stretch_of n e) (state_behind s n e) ys) ns es
 
 -- those of a journal; the first is that of link 1
 abbrev pub stories_of : List Joins → List Entry → List Story

@@ -41,5 +41,7 @@ pub record AreTaken (lines : List (List ℕ)) (commands : List Command) : Type 0
 -- taken in the state that the journal leads to, whatever was sent.
 abbrev pub LinesDecide : Type 0
 LinesDecide =
-    (lines : List (List ℕ)) (numbers : List Joins) (journal : List Entry) (last : State) → LeadsTo lines numbers journal last
-    → (commands : List Command) × AreTaken lines commands × ((line : List ℕ) → IsTaken last line ↔ IsTaken (standing_of commands) line)
+    (lines : List (List ℕ)) (numbers : List Joins) (journal : List Entry) (last : State)
+    → LeadsTo lines numbers journal last
+    → (commands : List Command) × AreTaken lines commands
+    × ((line : List ℕ) → IsTaken last line ↔ IsTaken (standing_of commands) line)

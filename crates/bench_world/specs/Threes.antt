@@ -1,5 +1,5 @@
--- Reading and writing a Type 3 tag on the bench: what is asked of it, what the answer tells, and how its stores stand meanwhile (NFC
--- Forum Type 3 Tag).
+-- Reading and writing a Type 3 tag on the bench: what is asked of it, what the answer tells, and how its stores stand
+-- meanwhile (NFC Forum Type 3 Tag).
 use Rattle.std.specs.Prelude.{◌≡◌, ◌↔◌, ◌<◌, ℕ, List, [], Bool, Option, Some, None, IsSome, ◌⊎◌, Result, Ok, Err}
 use Rattle.std.specs.List.{AllByRecursion}
 use Rattle.nfc_base.specs.Signal.{Signal}
@@ -109,17 +109,19 @@ pub record TellsEnd3 (message store : List ℕ) (locked : List Bool) (answer : A
 abbrev pub TellsWrite3 : List ℕ → Device → Answer → Type 0
 TellsWrite3 message d answer = IfThree (kind_of d) (TellsEnd3 message (device_store d) (device_locks d) answer) ⊥
 
--- What a command answers that selects a Type 3 tag, by how that ended and what was heard behind it. Where all that is asked of the tag
--- was answered, the answer tells of the device.
-abbrev pub ThreeEnds : (Device → Answer → Type 0) → List ℕ → List Device → List Signal → Result (Unit {0}) PollFault → List Note → Answer → Type 0
+-- What a command answers that selects a Type 3 tag, by how that ended and what was heard behind it. Where all that is
+-- asked of the tag was answered, the answer tells of the device.
+abbrev pub ThreeEnds : (Device → Answer → Type 0) → List ℕ → List Device → List Signal → Result (Unit {0}) PollFault
+    → List Note → Answer → Type 0
 ThreeEnds Tells id ds asked (Ok x) behind answer =
     TellsStanding (λ a. OfPlaced (λ d. Tells d a) (device_with id ds)) TellsFault (stand 0 asked behind) answer
 ThreeEnds Tells id ds asked (Err e) behind answer = poll_answer e ≡ Some answer
 
--- The law of a command of a Type 3 tag, over the devices that are placed: first it selects, then it asks what it asks of the tag. A
--- clash and a damaged answer may be of the tag, and it is selected then where it is placed. The field is lost exactly where a Break was
--- used, and without noise no wait has six bad receptions.
-pub record ThreeTells (Tells : Device → Answer → Type 0) (id : List ℕ) (ds : List Device) (asked : List Signal) (events : List Event) (answer : Answer) : Type 0 where
+-- The law of a command of a Type 3 tag, over the devices that are placed: first it selects, then it asks what it asks
+-- of the tag. A clash and a damaged answer may be of the tag, and it is selected then where it is placed. The field is
+-- lost exactly where a Break was used, and without noise no wait has six bad receptions.
+pub record ThreeTells (Tells : Device → Answer → Type 0) (id : List ℕ) (ds : List Device) (asked : List Signal)
+    (events : List Event) (answer : Answer) : Type 0 where
   pub heard : Result (Unit {0}) PollFault
   pub behind : List Note
   pub sought : seeking id (receptions events) ≡ Told heard behind
@@ -128,7 +130,8 @@ pub record ThreeTells (Tells : Device → Answer → Type 0) (id : List ℕ) (ds
   pub lost : (answer ≡ answers.FieldLost) ↔ (0 < breaks events)
   pub noisy : answer ≡ answers.SixBad → 0 < noise events
 
--- Nothing but want of memory ended what is asked of a Type 3 tag that was found: what was heard broke off no wait, and no Break was used.
+-- Nothing but want of memory ended what is asked of a Type 3 tag that was found: what was heard broke off no wait, and
+-- no Break was used.
 pub record IsUnbrokenThree (id : List ℕ) (asked : List Signal) (cut : List Event) : Type 0 where
   pub behind : List Note
   pub sought : seeking id (receptions cut) ≡ Told (Ok tt) behind
@@ -142,7 +145,8 @@ CutThree id asked cut = EachDue (λ ns. asks (seeking id ns)) [] cut ⊎ IsUnbro
 -- The stores of a Type 3 tag keep the law of a write; any other device keeps its own.
 abbrev pub KeepsStores3 : List ℕ → Device → WriteEnd3 → BenchWorld → List Event → Type 0
 KeepsStores3 message d r w es =
-    IfThree (kind_of d) (KeepsWrite3Law message d r w es) (AllByRecursion (λ s. s ≡ device_store d) (images_of (device_id d) w es))
+    IfThree (kind_of d) (KeepsWrite3Law message d r w es)
+    (AllByRecursion (λ s. s ≡ device_store d) (images_of (device_id d) w es))
 
 -- how the stores of the tag stand by the answer
 abbrev pub end_told : Answer → WriteEnd3

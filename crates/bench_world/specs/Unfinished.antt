@@ -17,22 +17,27 @@ use Rattle.bench_world.specs.Threes.{KeepsStores3}
 use Rattle.bench_world.specs.Writing.{KeepsStores}
 
 -- A write that was cut off. From the start of the command on the stores of its tag are the old one, then such that hold
--- the empty message and equal the old one outside the message's place, then the new one; any part may be empty. The last
--- of them is what the tag holds then. All else that stays of the tag does, and every other device keeps all.
+-- the empty message and equal the old one outside the message's place, then the new one; any part may be empty. The
+-- last of them is what the tag holds then. All else that stays of the tag does, and every other device keeps all.
 pub record WriteUnfinished (s : State) (id : DeviceId) (message : Msg) (cut : List Event) (t : State) : Type 0 where
-  pub passes : IfPlaced (λ d. KeepsStores (message_of message) d Stopped s.world.field cut) (Unit {0}) (device_with (bytes_of id) s.world.field.listeners)
-  pub holds : held_by (device_with (bytes_of id) t.world.field.listeners) ≡ last_store [] (images_of (bytes_of id) s.world.field cut)
+  pub passes : IfPlaced (λ d. KeepsStores (message_of message) d Stopped s.world.field cut) (Unit {0})
+      (device_with (bytes_of id) s.world.field.listeners)
+  pub holds : held_by (device_with (bytes_of id) t.world.field.listeners)
+      ≡ last_store [] (images_of (bytes_of id) s.world.field cut)
   pub others : AllKeepBut (bytes_of id) s.world.field.listeners t.world.field.listeners
 
--- Likewise of a Type 3 tag, whose stores are the old one, then such that say that a write is under way, then such that hold the message.
+-- Likewise of a Type 3 tag, whose stores are the old one, then such that say that a write is under way, then such that
+-- hold the message.
 pub record Write3Unfinished (s : State) (id : List ℕ) (message : Msg) (cut : List Event) (t : State) : Type 0 where
-  pub passes : IfPlaced (λ d. KeepsStores3 (message_of message) d (Err fault.Memory) s.world.field cut) (Unit {0}) (device_with id s.world.field.listeners)
+  pub passes : IfPlaced (λ d. KeepsStores3 (message_of message) d (Err fault.Memory) s.world.field cut) (Unit {0})
+      (device_with id s.world.field.listeners)
   pub holds : held_by (device_with id t.world.field.listeners) ≡ last_store [] (images_of id s.world.field cut)
   pub others : AllKeepBut id s.world.field.listeners t.world.field.listeners
 
--- From this state a command was cut off, behind these events, and left that one. A write that was cut off is said above. Frames
--- that are sent as they are may have changed each store, which is one of its kind still. Any other changes no store, no locked block, and not how much more time a device asks for; nor does it place a device or
--- take one away.
+-- From this state a command was cut off, behind these events, and left that one. A write that was cut off is said
+-- above. Frames that are sent as they are may have changed each store, which is one of its kind still. Any other
+-- changes no store, no locked block, and not how much more time a device asks for; nor does it place a device or take
+-- one away.
 abbrev pub Unfinished : State → Command → List Event → State → Type 0
 Unfinished s (Write id message) cut t = WriteUnfinished s id message cut t
 Unfinished s (Write3 id message) cut t = Write3Unfinished s id message cut t

@@ -26,7 +26,11 @@ first_world = record { field = record { lit = false; listeners = [] }; fars = []
 
 -- the world whose field has these devices, at the places of those before
 abbrev pub with_listeners : WholeWorld → List Device → WholeWorld
-with_listeners w ds = record { field = record { lit = w.field.lit; listeners = ds }; fars = w.fars; numbers = w.numbers }
+with_listeners w ds = record {
+  field = record { lit = w.field.lit; listeners = ds };
+  fars = w.fars;
+  numbers = w.numbers;
+}
 
 -- One device more; its far end takes the place behind the others.
 abbrev pub with_one_more : WholeWorld → Device → Option FarEnd → WholeWorld

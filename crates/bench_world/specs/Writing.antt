@@ -28,7 +28,8 @@ WriteAsks message d asked = IfRead (kind_of d) (AsksWriteOf message d asked) (as
 
 -- The stores of a tag keep the law of a write; a device that isn't written keeps its own, a peer none.
 abbrev pub KeepsStores : List ℕ → Device → Ending → BenchWorld → List Event → Type 0
-KeepsStores message d ending w es = IfRead (kind_of d) (KeepsWriteLaw message d ending w es) (AllByRecursion (λ s. s ≡ device_store d) (images_of (device_id d) w es))
+KeepsStores message d ending w es = IfRead (kind_of d) (KeepsWriteLaw message d ending w es)
+    (AllByRecursion (λ s. s ≡ device_store d) (images_of (device_id d) w es))
 
 -- how the stores of the tag stand by the answer
 abbrev pub ending_told : Answer → Ending

@@ -1,4 +1,5 @@
-//! Messages that several clients of the reader put at once over the open link, each from its slot, and a value that one of them gets.
+//! Messages that several clients of the reader put at once over the open link, each from its slot, and a value that one
+//! of them gets.
 
 ghost use Rattle.std.specs.Prelude.{◌≡◌, ◌↔◌, [], ◌∷◌, IsTrue, IfOk, IsErrOf};
 ghost use Rattle.std.specs.List.{All};
@@ -46,7 +47,8 @@ pub fn on_put(
     ensures ok { IfOk result (λ a. ObeyedBy joins machines.old machines.new (Command.OnPut slot message.now) a) }
     ensures refused { IsErrOf result ObeyFault.Refused → (machines.new ≡ machines.old) }
     ensures cause { RefusedOnly result machines.old (Command.OnPut slot message.now) }
-    ensures cut { IsErrOf result ObeyFault.Memory → IsCutOffBy joins machines.old machines.new (Command.OnPut slot message.now) }
+    ensures cut { IsErrOf result ObeyFault.Memory → IsCutOffBy joins machines.old machines.new
+        (Command.OnPut slot message.now) }
 {
     if slot < 1 || slot > LAST_SLOT || is_too_long(message) {
         return Err(ObeyFault::Refused);
@@ -70,7 +72,8 @@ pub fn on_get(
     ensures ok { IfOk result (λ a. ObeyedBy joins machines.old machines.new (Command.OnGet slot acceptable key.now) a) }
     ensures refused { IsErrOf result ObeyFault.Refused → (machines.new ≡ machines.old) }
     ensures cause { RefusedOnly result machines.old (Command.OnGet slot acceptable key.now) }
-    ensures cut { IsErrOf result ObeyFault.Memory → IsCutOffBy joins machines.old machines.new (Command.OnGet slot acceptable key.now) }
+    ensures cut { IsErrOf result ObeyFault.Memory → IsCutOffBy joins machines.old machines.new
+        (Command.OnGet slot acceptable key.now) }
 {
     if slot < 1 || slot > LAST_SLOT {
         return Err(ObeyFault::Refused);

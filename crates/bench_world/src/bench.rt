@@ -1,12 +1,16 @@
 //! The bench: the field, and the journal of what was obeyed.
 
-ghost use Rattle.std.specs.Prelude.{◌≡◌, ◌≢◌, ◌↔◌, ◌≤◌, ◌<◌, ◌++◌, [], ◌∷◌, true, is_some, Some, None, IsTrue, option_map, option_copied, false, IfOk, IfSome, OnOk, OnErr, IsErrOf, vec_len, vec_capacity, length};
+ghost use Rattle.std.specs.Prelude.{◌≡◌, ◌≢◌, ◌↔◌, ◌≤◌, ◌<◌, ◌++◌, [], ◌∷◌, true, is_some, Some, None, IsTrue};
+ghost use Rattle.std.specs.Prelude.{option_map, option_copied, false, IfOk, IfSome, OnOk, OnErr, IsErrOf, vec_len};
+ghost use Rattle.std.specs.Prelude.{vec_capacity, length};
 ghost use Rattle.bench_world.specs.Legal.{Accepts, Joins, joins_for, memory_of};
 ghost use Rattle.bench_devices.specs.Device.{most_devices};
 ghost use Rattle.bench_devices.specs.Placed.{device_with};
 ghost use Rattle.bench_world.specs.Following.{Follows, LosesTrack, MayFollow, Records};
 ghost use Rattle.bench_world.specs.Showing.{MayShow, shown_of};
-ghost use Rattle.bench_world.specs.Obeying.{Obeys, Obeyed, ObeyedBy, Makes, state_at, IsSettled, IsCutOffBy, RefusedOnly, ObeyedBelow, RefusedBelow, LacksMemory, FieldOf, FarAt, begun_anew, new_bench, obey_fault_number};
+ghost use Rattle.bench_world.specs.Obeying.{Obeys, Obeyed, ObeyedBy, Makes, state_at, IsSettled, IsCutOffBy};
+ghost use Rattle.bench_world.specs.Obeying.{RefusedOnly, ObeyedBelow, RefusedBelow, LacksMemory, FieldOf, FarAt};
+ghost use Rattle.bench_world.specs.Obeying.{begun_anew, new_bench, obey_fault_number};
 ghost use Rattle.bench_world.specs.Links.{OpenLink};
 ghost use Rattle.bench_devices.specs.Phases.{IsIdle};
 ghost use Rattle.bench_world.specs.Stories.{gained_on};
@@ -163,7 +167,8 @@ fn place_t4(
     head: &[u8],
 ) -> Result<Answer, ObeyFault>
     requires { IsSettled machines.old }
-    ensures ok { IfOk result (λ a. Obeyed machines.old machines.new (Command.PlaceT4 id.now code container.now head.now) a) }
+    ensures ok { IfOk result (λ a. Obeyed machines.old machines.new (Command.PlaceT4 id.now code container.now head.now)
+        a) }
     ensures err { OnErr result (machines.new ≡ machines.old) }
     ensures cause { RefusedOnly result machines.old (Command.PlaceT4 id.now code container.now head.now) }
 {
@@ -330,7 +335,8 @@ fn run_command(
     ensures ok { IfOk result (λ a. ObeyedBy (joins_for command.now joins) machines.old machines.new command.now a) }
     ensures refused { IsErrOf result ObeyFault.Refused → (machines.new ≡ machines.old) }
     ensures cause { RefusedOnly result machines.old command.now }
-    ensures cut { IsErrOf result ObeyFault.Memory → IsCutOffBy (joins_for command.now joins) machines.old machines.new command.now }
+    ensures cut { IsErrOf result ObeyFault.Memory → IsCutOffBy (joins_for command.now joins) machines.old machines.new
+        command.now }
 {
     match command {
         Command::Skip => unreachable!(),
@@ -420,7 +426,8 @@ fn make_entry(
     ensures ok { IfOk result (λ e. Makes (joins_for command.now joins) machines.old machines.new line command.now e) }
     ensures refused { IsErrOf result ObeyFault.Refused → (machines.new ≡ machines.old) }
     ensures cause { RefusedOnly result machines.old command.now }
-    ensures cut { IsErrOf result ObeyFault.Memory → IsCutOffBy (joins_for command.now joins) machines.old machines.new command.now }
+    ensures cut { IsErrOf result ObeyFault.Memory → IsCutOffBy (joins_for command.now joins) machines.old machines.new
+        command.now }
 {
     let Ok(copy) = command.copy(alloc) else {
         return Err(ObeyFault::Memory);
@@ -444,11 +451,13 @@ fn make_shown(
 ) -> Result<Entry, ObeyFault>
     requires idle { IsSettled machines.old }
     requires asks { command.now ≢ Command.Skip }
-    ensures ok { IfOk result (λ e. Makes (shown_of (state_at machines.old) command.now events.now) machines.old machines.new line command.now e) }
+    ensures ok { IfOk result (λ e. Makes (shown_of (state_at machines.old) command.now events.now) machines.old
+        machines.new line command.now e) }
     ensures shows { IfOk result (λ _. MayShow (state_at machines.old) command.now) }
     ensures refused { IsErrOf result ObeyFault.Refused → (machines.new ≡ machines.old) }
     ensures cause { IsErrOf result ObeyFault.Refused → MayFollow (state_at machines.old) command.now → ⊥ }
-    ensures cut { IsErrOf result ObeyFault.Memory → (joins : Joins) × IsCutOffBy joins machines.old machines.new command.now }
+    ensures cut { IsErrOf result ObeyFault.Memory → (joins : Joins)
+        × IsCutOffBy joins machines.old machines.new command.now }
 {
     if !may_show(machines.devices(), command) {
         return Err(ObeyFault::Refused);
@@ -552,8 +561,8 @@ impl Bench {
         }
     }
 
-    /// Begins anew: the journal becomes the last of the finished runs, and all else is as in a new bench. Where memory is
-    /// wanting nothing changes.
+    /// Begins anew: the journal becomes the last of the finished runs, and all else is as in a new bench. Where memory
+    /// is wanting nothing changes.
     pub fn again(&mut self) -> Result<(), AllocError>
         requires { self.old.spoiled ≡ false }
         ensures ok { OnOk result (self.new ≡ begun_anew (self.old.finished ++ self.old.journal ∷ [])) }
@@ -599,7 +608,8 @@ impl Bench {
 
     /// The far end above the device at a place: a tag has none.
     pub fn far(&self, place: usize) -> Option<&Llc<Server>>
-        ensures { place < length self.now.state.world.field.listeners → FarAt self.now.state place (option_copied result) }
+        ensures { place < length self.now.state.world.field.listeners
+            → FarAt self.now.state place (option_copied result) }
     {
         self.machines.far(place)
     }
@@ -613,8 +623,10 @@ impl Bench {
 
     /// The client that asks over the open link; none where no link is open.
     pub fn client(&self) -> Option<&Client>
-        ensures end { option_map (λ (c : ClientState). c.llc) (option_copied result) ≡ option_map (λ (l : OpenLink). l.client) self.now.state.link }
-        ensures slots { option_map (λ (c : ClientState). c.slots) (option_copied result) ≡ option_map (λ (l : OpenLink). l.slots) self.now.state.link }
+        ensures end { option_map (λ (c : ClientState). c.llc) (option_copied result)
+            ≡ option_map (λ (l : OpenLink). l.client) self.now.state.link }
+        ensures slots { option_map (λ (c : ClientState). c.slots) (option_copied result)
+            ≡ option_map (λ (l : OpenLink). l.slots) self.now.state.link }
         ensures going { IfSome (option_copied result) (λ c. c.spent ≡ false) }
     {
         self.machines.client()
@@ -627,8 +639,8 @@ impl Bench {
         self.machines.link_count()
     }
 
-    /// What the server of a link's peer accepted on it so far, message by message, also where the peer was taken away since;
-    /// nothing of a number that no link has.
+    /// What the server of a link's peer accepted on it so far, message by message, also where the peer was taken away
+    /// since; nothing of a number that no link has.
     pub fn accepted(&self, link: u32) -> &[Items<u8>]
         ensures { self.now.spoiled ≡ false → result.now ≡ messages_of (gained_on self.now.state link) }
     {
@@ -674,11 +686,11 @@ impl Bench {
         }
     }
 
-    /// Says how far some events may be those of a line's command, as another program or another day's run reported them: ends of
-    /// a link may join PDUs otherwise than `obey` has it. Where all of them may be, their entry is added. Else the bench goes on
-    /// behind an entry that begins with as many of them as any may, which isn't added. It needs the time of `obey` and one walk
-    /// over the events, and memory for the numbers of PDUs that they show beside that of `obey`. A `raw` isn't followed while a
-    /// peer is placed.
+    /// Says how far some events may be those of a line's command, as another program or another day's run reported
+    /// them: ends of a link may join PDUs otherwise than `obey` has it. Where all of them may be, their entry is added.
+    /// Else the bench goes on behind an entry that begins with as many of them as any may, which isn't added. It needs
+    /// the time of `obey` and one walk over the events, and memory for the numbers of PDUs that they show beside that
+    /// of `obey`. A `raw` isn't followed while a peer is placed.
     pub fn follow(
         &mut self,
         line: u32,

@@ -1,7 +1,8 @@
 //! The commands on the open link: its client puts a message to the server of the link's peer, gets a value of it, or
 //! asks where a service is; and the link is closed. Each takes how many PDUs stand in the payloads of both ends.
 
-ghost use Rattle.std.specs.Prelude.{false, ◌≡◌, ◌↔◌, ◌≤◌, IsTrue, ◌<◌, length, None, Some, IfOk, IfSome, IsErr, IsErrOf, MatchOption, OnErr};
+ghost use Rattle.std.specs.Prelude.{false, ◌≡◌, ◌↔◌, ◌≤◌, IsTrue, ◌<◌, length, None, Some, IfOk, IfSome, IsErr};
+ghost use Rattle.std.specs.Prelude.{IsErrOf, MatchOption, OnErr};
 ghost use Rattle.std.specs.Char.{is_ascii_graphic};
 ghost use Rattle.std.specs.List.{list_all};
 ghost use Rattle.link_calls.specs.Asking.{MayAsk, asking_of};
@@ -172,7 +173,8 @@ pub fn put(
     ensures ok { IfOk result (λ a. ObeyedBy joins machines.old machines.new (Command.Put message.now) a) }
     ensures refused { IsErrOf result ObeyFault.Refused → (machines.new ≡ machines.old) }
     ensures cause { RefusedOnly result machines.old (Command.Put message.now) }
-    ensures cut { IsErrOf result ObeyFault.Memory → IsCutOffBy joins machines.old machines.new (Command.Put message.now) }
+    ensures cut { IsErrOf result ObeyFault.Memory → IsCutOffBy joins machines.old machines.new
+        (Command.Put message.now) }
 {
     if is_too_long(message) {
         return Err(ObeyFault::Refused);
@@ -195,7 +197,8 @@ pub fn get(
     ensures ok { IfOk result (λ a. ObeyedBy joins machines.old machines.new (Command.Get acceptable key.now) a) }
     ensures refused { IsErrOf result ObeyFault.Refused → (machines.new ≡ machines.old) }
     ensures cause { RefusedOnly result machines.old (Command.Get acceptable key.now) }
-    ensures cut { IsErrOf result ObeyFault.Memory → IsCutOffBy joins machines.old machines.new (Command.Get acceptable key.now) }
+    ensures cut { IsErrOf result ObeyFault.Memory → IsCutOffBy joins machines.old machines.new
+        (Command.Get acceptable key.now) }
 {
     if acceptable as usize > LONGEST_MESSAGE || key.len() > LONGEST_MESSAGE {
         return Err(ObeyFault::Refused);
@@ -241,7 +244,8 @@ pub fn lookup(
     ensures ok { IfOk result (λ a. ObeyedBy joins machines.old machines.new (Command.Lookup name.now) a) }
     ensures refused { IsErrOf result ObeyFault.Refused → (machines.new ≡ machines.old) }
     ensures cause { RefusedOnly result machines.old (Command.Lookup name.now) }
-    ensures cut { IsErrOf result ObeyFault.Memory → IsCutOffBy joins machines.old machines.new (Command.Lookup name.now) }
+    ensures cut { IsErrOf result ObeyFault.Memory → IsCutOffBy joins machines.old machines.new
+        (Command.Lookup name.now) }
 {
     let Some(service) = service_name(name) else {
         return Err(ObeyFault::Refused);

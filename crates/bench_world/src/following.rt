@@ -27,8 +27,9 @@ pub enum Followed {
     Front { good: usize },
 }
 
-/// Whether the events of a command show its numbers of PDUs: not those of a `raw` beside a peer, since there a frame may
-/// cut off a reply while its link goes on. So such a command is neither followed nor audited. `devices` are those of the field.
+/// Whether the events of a command show its numbers of PDUs: not those of a `raw` beside a peer, since there a frame
+/// may cut off a reply while its link goes on. So such a command is neither followed nor audited. `devices` are those
+/// of the field.
 pub fn may_show(devices: &[Device], command: &Command) -> bool
     ensures { IsTrue result ↔ MayShowAmong devices.now command.now }
 {

@@ -1,6 +1,7 @@
 //! Payloads that were written by hand are sent to a peer, over a link that begins and ends so.
 
-ghost use Rattle.std.specs.Prelude.{◌≡◌, ◌↔◌, ◌+◌, ◌^◌, ◌<◌, ◌++◌, if◌then◌else◌, [], ◌∷◌, ℕ, Some, None, length, get_or, false, IsTrue, IfOk, IfErr, OnErr, IsErrOf, vec_len, vec_capacity};
+ghost use Rattle.std.specs.Prelude.{◌≡◌, ◌↔◌, ◌+◌, ◌^◌, ◌<◌, ◌++◌, if◌then◌else◌, [], ◌∷◌, ℕ, Some, None, length};
+ghost use Rattle.std.specs.Prelude.{get_or, false, IsTrue, IfOk, IfErr, OnErr, IsErrOf, vec_len, vec_capacity};
 ghost use Rattle.std.specs.List.{All};
 ghost use Rattle.air_core.specs.Turn.{moment};
 ghost use Rattle.bench_devices.specs.Device.{is_tag};
@@ -159,7 +160,8 @@ fn select_and_send(
     requires unlinked { machines.old.link ≡ None }
     requires few { length machines.old.peers.links + 1 < 2 ^ 32 }
     requires payloads { MayForge payloads.now }
-    ensures ok { IfOk result (λ a. ObeyedBy (joins_for (Command.Forge id.now payloads.now) joins) machines.old machines.new
+    ensures ok { IfOk result (λ a. ObeyedBy (joins_for (Command.Forge id.now payloads.now) joins) machines.old
+        machines.new
         (Command.Forge id.now payloads.now) a) }
     ensures cut { OnErr result (ForgeStops (joins_for (Command.Forge id.now payloads.now) joins) (state_at machines.old)
         (Command.Forge id.now payloads.now) machines.new.air.trace (state_at machines.new)) }
@@ -189,7 +191,8 @@ pub fn forge(
     payloads: &[Items<u8>],
 ) -> Result<Answer, ObeyFault>
     requires { IsSettled machines.old }
-    ensures ok { IfOk result (λ a. ObeyedBy (joins_for (Command.Forge id.now payloads.now) joins) machines.old machines.new
+    ensures ok { IfOk result (λ a. ObeyedBy (joins_for (Command.Forge id.now payloads.now) joins) machines.old
+        machines.new
         (Command.Forge id.now payloads.now) a) }
     ensures cut { IsErrOf result ObeyFault.Memory → IsCutOffBy (joins_for (Command.Forge id.now payloads.now) joins)
         machines.old machines.new (Command.Forge id.now payloads.now) }

@@ -3,7 +3,8 @@
 ghost use Rattle.std.specs.Prelude.{◌≡◌, ◌+◌, ◌<◌, ◌≤◌, ◌++◌, length};
 ghost use Rattle.hex.specs.Hex.{encode_upper};
 ghost use Rattle.bench_script.specs.Canonical.{hex_text};
-ghost use Rattle.bench_world.specs.Report.{kind_text, seen_text, tag_text, source_text, received_text, reply_text, heard_text, outcome_text, slot_done_text};
+ghost use Rattle.bench_world.specs.Report.{kind_text, seen_text, tag_text, source_text, received_text, reply_text};
+ghost use Rattle.bench_world.specs.Report.{heard_text, outcome_text, slot_done_text};
 ghost use Rattle.bench_world.specs.Listing.{listed_text, GivesItem};
 
 use crate::entry::{RawHeard, Received, Seen, SlotDone};

@@ -110,7 +110,8 @@ fn is_number(number: Option<u64>, peer: u64) -> bool
 /// The place of the peer with a number.
 pub(crate) fn place_numbered(numbers: &[Option<u64>], peer: u64) -> Option<usize>
     ensures within { IfSome result (λ place. place < length numbers.now) }
-    ensures some { IfSome result (λ place. (ends : List (Option FarEnd)) → end_numbered peer numbers.now ends ≡ get_or ends place None) }
+    ensures some { IfSome result (λ place. (ends : List (Option FarEnd))
+        → end_numbered peer numbers.now ends ≡ get_or ends place None) }
     ensures none { result ≡ None → (ends : List (Option FarEnd)) → end_numbered peer numbers.now ends ≡ None }
 {
     for place in 0..numbers.len() {
@@ -174,7 +175,8 @@ impl Model for Machines {
 }
 
 impl Machines {
-    ghost use Rattle.std.specs.Prelude.{◌≡◌, ◌<◌, ◌^◌, [], Some, None, true, false, length, get_or, option_map, option_copied, if◌then◌else◌, ℕ, ◌+◌, IfSome, IfOk, IfErr, OnOk, OnErr};
+    ghost use Rattle.std.specs.Prelude.{◌≡◌, ◌<◌, ◌^◌, [], Some, None, true, false, length, get_or, option_map};
+    ghost use Rattle.std.specs.Prelude.{option_copied, if◌then◌else◌, ℕ, ◌+◌, IfSome, IfOk, IfErr, OnOk, OnErr};
     ghost use Rattle.bench_world.specs.Obeying.{untraced, put_in, with_end, taken_out, link_ended};
     ghost use Rattle.bench_world.specs.Links.{OpenLink, is_with};
     ghost use Rattle.bench_world.specs.Opened.{IsServed};
@@ -223,8 +225,10 @@ impl Machines {
 
     /// The client of the open link.
     pub fn client(&self) -> Option<&Client>
-        ensures end { option_map (λ (c : ClientState). c.llc) (option_copied result) ≡ option_map (λ (l : OpenLink). l.client) self.now.link }
-        ensures slots { option_map (λ (c : ClientState). c.slots) (option_copied result) ≡ option_map (λ (l : OpenLink). l.slots) self.now.link }
+        ensures end { option_map (λ (c : ClientState). c.llc) (option_copied result)
+            ≡ option_map (λ (l : OpenLink). l.client) self.now.link }
+        ensures slots { option_map (λ (c : ClientState). c.slots) (option_copied result)
+            ≡ option_map (λ (l : OpenLink). l.slots) self.now.link }
         ensures going { IfSome (option_copied result) (λ c. c.spent ≡ false) }
     {
         match &self.link {
@@ -263,7 +267,8 @@ impl Machines {
     pub fn end_link_to(&mut self, place: usize)
         requires places { length self.old.ends ≡ length self.old.peers.numbers }
         requires number { place < length self.old.peers.numbers }
-        ensures ended { self.new ≡ (if is_with self.old.link (get_or self.old.peers.numbers place None) then link_ended self.old else self.old) }
+        ensures ended { self.new ≡ (if is_with self.old.link (get_or self.old.peers.numbers place None)
+            then link_ended self.old else self.old) }
         ensures air { self.new.air ≡ self.old.air }
         ensures ends { self.new.ends ≡ self.old.ends }
         ensures numbers { self.new.peers.numbers ≡ self.old.peers.numbers }

@@ -4,7 +4,8 @@ ghost use Rattle.std.specs.Prelude.{◌≡◌, ◌+◌, ◌*◌, ◌<◌, ◌≤
 ghost use Rattle.std.specs.Fmt.{decimal};
 ghost use Rattle.hex.specs.Hex.{encode_upper};
 ghost use Rattle.bench_script.specs.Canonical.{hex_text};
-ghost use Rattle.bench_world.specs.Report.{access_text, found_text, tags_text, inbox_text, replies_text, all_heard_text, puts_text, answer_text, code_text, loss_text, line_text};
+ghost use Rattle.bench_world.specs.Report.{access_text, found_text, tags_text, inbox_text, replies_text};
+ghost use Rattle.bench_world.specs.Report.{all_heard_text, puts_text, answer_text, code_text, loss_text, line_text};
 
 use crate::entry::{Answer, Entry, Loss, RawHeard, Received, Seen, SlotDone};
 use crate::fixed_text::{push_digits, push_number, push_text};

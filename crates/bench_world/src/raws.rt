@@ -1,6 +1,7 @@
 //! Frames of a script's own are sent, each once, to whatever hears them.
 
-ghost use Rattle.std.specs.Prelude.{ℕ, ◌≡◌, ◌↔◌, ◌+◌, ◌^◌, ◌≤◌, ◌<◌, ◌++◌, [], ◌∷◌, Some, None, length, get_or, true, false, IsTrue, IfOk, IfErr, OnErr, IsErrOf, vec_len, vec_capacity};
+ghost use Rattle.std.specs.Prelude.{ℕ, ◌≡◌, ◌↔◌, ◌+◌, ◌^◌, ◌≤◌, ◌<◌, ◌++◌, [], ◌∷◌, Some, None, length, get_or, true};
+ghost use Rattle.std.specs.Prelude.{false, IsTrue, IfOk, IfErr, OnErr, IsErrOf, vec_len, vec_capacity};
 ghost use Rattle.air_core.specs.Turn.{moment};
 ghost use Rattle.bench_devices.specs.AnyFrame.{peer_place, peers_in};
 ghost use Rattle.bench_devices.specs.Device.{is_tag};
@@ -8,7 +9,8 @@ ghost use Rattle.bench_devices.specs.Phases.{Stands};
 ghost use Rattle.bench_world.specs.Legal.{MayRaw, joins_for};
 ghost use Rattle.bench_world.specs.Obeying.{IsCutOffBy, IsSettled, ObeyedBy, RefusedOnly, state_at};
 ghost use Rattle.bench_world.specs.Opened.{IsServed};
-ghost use Rattle.bench_world.specs.private.RawAt.{RawAlone, RawBeside, RawSendsAll, RawSendsTo, RawStops, SendsEach, told_each, told_raw};
+ghost use Rattle.bench_world.specs.private.RawAt.{RawAlone, RawBeside, RawSendsAll, RawSendsTo, RawStops, SendsEach};
+ghost use Rattle.bench_world.specs.private.RawAt.{told_each, told_raw};
 ghost use Rattle.bench_world.specs.Rawing.{raw_heard};
 ghost use Rattle.bench_world.specs.World.{FarEnd};
 

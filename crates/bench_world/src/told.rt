@@ -1,4 +1,5 @@
-//! What is told of a command on the open link: by how its call ended, and of messages that were put at once by what each slot tells.
+//! What is told of a command on the open link: by how its call ended, and of messages that were put at once by what
+//! each slot tells.
 
 ghost use Rattle.std.specs.Prelude.{◌≡◌, ◌<◌, length, map, IfOk};
 ghost use Rattle.std.specs.List.{All};
@@ -6,7 +7,8 @@ ghost use Rattle.snep_core.specs.Slots.{slot_count};
 ghost use Rattle.link_calls.specs.Asking.{MayAsk};
 ghost use Rattle.link_calls.specs.AtOnce.{AreApart};
 ghost use Rattle.bench_world.specs.Calls.{told_ending};
-ghost use Rattle.bench_world.specs.private.LinkTaken.{HasRoom, fault_told, is_success, marked_done, not_yet, told_request, told_slots};
+ghost use Rattle.bench_world.specs.private.LinkTaken.{HasRoom, fault_told, is_success, marked_done, not_yet};
+ghost use Rattle.bench_world.specs.private.LinkTaken.{told_request, told_slots};
 
 use crate::bench::ObeyFault;
 use crate::entry::{Answer, Loss, SlotDone};

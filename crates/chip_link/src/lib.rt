@@ -1,8 +1,8 @@
 //! A link to the tag in the field of a chip of your own, of which nothing has to be known.
 //!
-//! `read` and `write` go over any `TagLink`, whose contract speaks of the tag: what it holds, and its step at each command. Here
-//! the tag is what the chip answers: its store counts how often it was asked, and its step looks the answer up
-//! (`specs/Chips.antt`). So whatever the chip answers, what is told is what stands in these answers.
+//! `read` and `write` go over any `TagLink`, whose contract speaks of the tag: what it holds, and its step at each
+//! command. Here the tag is what the chip answers: its store counts how often it was asked, and its step looks the
+//! answer up (`specs/Chips.antt`). So whatever the chip answers, what is told is what stands in these answers.
 #![tactic(auto)]
 
 ghost use Rattle.std.specs.Prelude.{◌≡◌, ℕ, suc, Option, Some, [], ◌<◌, ◌^◌, length, false, Err};

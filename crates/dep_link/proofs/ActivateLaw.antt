@@ -1,5 +1,6 @@
 -- The wait of ATR_REQ at a target, turn by turn.
-use Rattle.std.proofs.Common.{◌≡◌, ℕ, zero, suc, ◌+◌, ◌<◌, ◌≤◌, inl, inr, List, [], ◌∷◌, ◌++◌, length, Bool, true, false, if◌then◌else◌, Option, Some, None, Result, Ok, Err, refl, sym, ◌∙◌, ap, subst, arith, append_assoc, append-nil, length-append}
+use Rattle.std.proofs.Common.{◌≡◌, ℕ, zero, suc, ◌+◌, ◌<◌, ◌≤◌, inl, inr, List, [], ◌∷◌, ◌++◌, length, Bool, true, false, if◌then◌else◌, Option, Some, None, Result, Ok, Err, refl, sym, ◌∙◌, ap, subst}
+use Rattle.std.proofs.Common.{arith, append_assoc, append-nil, length-append}
 use Rattle.std.specs.List.{AllByRecursion}
 use Rattle.nfc_base.specs.declared.frame.Tech.TheVariants.{A}
 use Rattle.nfc_base.specs.declared.event.Event.{Event}
@@ -265,7 +266,8 @@ module _ {L F : Type 0} (k : Ghosts L) (laws : Laws k) (target : L → TargetSta
           let x : Fate = first_fate mid.fates in
           let y : Fate = first_fate (later_fates mid.fates) in
           let a : AnsweredTurn k.machine restarts steps f (hands_over k.machine now f) mid far h new far' =
-          answered_turn k.machine restarts steps f o.alone.before now o.alone.behind (all_quiet o.alone.before o.alone.first) (all_quiet o.alone.behind o.alone.later) mid far h new far' o.alone.split turn in
+          answered_turn k.machine restarts steps f o.alone.before now o.alone.behind (all_quiet o.alone.before o.alone.first) (all_quiet o.alone.behind o.alone.later) mid far h new far' o.alone.split
+          turn in
           let q : (r : List ℕ) → QuietTurn {A = Told} (answering k.machine r) mid f tt h new tt = λ r. a.any (nothing_in x (hands_over k.machine now f) uses) r in
           let m : Ghosts L = told k laws [] in
           let ml : Laws m = told_laws k laws [] in
@@ -309,7 +311,8 @@ module _ {L F : Type 0} (k : Ghosts L) (laws : Laws k) (target : L → TargetSta
             subst P (sym same.0) (subst Q (sym same.1) (bad, subst (λ (s : Standing). Sent mid far s) (asking_bad f bad bound) o.sent))
         atr_memory (lit, inr s) =
             let stop =
-            stopped_at k.machine restarts steps f stops is_stuck o.alone.before now o.alone.behind far far' s.listeners (all_quiet o.alone.before o.alone.first) (all_quiet o.alone.behind o.alone.later)
+            stopped_at k.machine restarts steps f stops is_stuck o.alone.before now o.alone.behind far far' s.listeners (all_quiet o.alone.before o.alone.first)
+            (all_quiet o.alone.behind o.alone.later)
             (subst (λ (ls : List L). HearSome k.machine restarts steps stops is_stuck f ls far s.listeners far') o.alone.split s.some) in
             absurd (never stop.0 (sym uses ∙ stop.1))
           where

@@ -8,7 +8,8 @@ use Rattle.dep_link.specs.declared.target.TargetStep.{TargetStep}
 use Rattle.dep_link.specs.declared.target.TargetStep.TheVariants as steps
 use Rattle.dep_link.specs.Sizes.{limit}
 use Rattle.dep_link.specs.Frames.{spelled, after}
-use Rattle.dep_link.specs.Target.{TargetState, TargetMove, Does, Stays, Answers, Begins, Delivers, Sleeps, Frees, stays, again, repeated, grown, gathered, extended, heeded, obeyed, framed_does, IsNew, DeliversAnew}
+use Rattle.dep_link.specs.Target.{TargetState, TargetMove, Does, Stays, Answers, Begins, Delivers, Sleeps, Frees, stays, again, repeated, grown, gathered, extended, heeded, obeyed, framed_does, IsNew}
+use Rattle.dep_link.specs.Target.{DeliversAnew}
 use Rattle.dep_link.specs.laws.Moves.{IsKept}
 
 kept_if : (b : Bool) (m n : TargetMove) → IsKept m.does → IsKept n.does → IsKept (if b then m else n).does

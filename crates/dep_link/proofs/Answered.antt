@@ -60,7 +60,8 @@ module _ {L A : Type 0} (m : Machine L) (restarts : A → List ℕ → A → Typ
     pub short : length reply ≤ limit
     pub far_did : FarDid restarts steps u far (reply_for reply u) far'
 
-  did_some : (u : FarUse) (far far' : A) (reply : Option (List ℕ)) → FarDid restarts steps u far reply far' → (r : List ℕ) × FarDid restarts steps u far (reply_for r u) far' × (reply ≡ reply_for r u) × (length r ≤ limit)
+  did_some : (u : FarUse) (far far' : A) (reply : Option (List ℕ)) → FarDid restarts steps u far reply far'
+      → (r : List ℕ) × FarDid restarts steps u far (reply_for r u) far' × (reply ≡ reply_for r u) × (length r ≤ limit)
   did_some Untouched far far' reply d = ([], (d.0, refl), d.1, omega arith)
   did_some (Restarts general) far far' reply d = ([], (d.0, refl), d.1, omega arith)
   did_some (Hands payload) far far' reply d = (d.0, (d.0, d.1, d.2, refl), d.3, d.2)
@@ -76,7 +77,8 @@ module _ {L A : Type 0} (m : Machine L) (restarts : A → List ℕ → A → Typ
   -- a listener, of that technology or not, meets the frame where its reply is that one
   meets_one : (r : List ℕ) (l : L) (answer : Option Signal) (l' : L) (reply : Option (List ℕ)) (v : Bool)
       → answer ≡ (if v then m.answer l f reply else None) → l' ≡ (if v then m.after l f reply else l) → (v ≡ true → reply ≡ reply_for r (m.handed l f))
-      → Step restarts_told steps_told (if v then Untouched else Untouched) (λ x. if v then m.answer l f (reply_for r (m.handed l f)) else None) (λ x. if v then m.after l f (reply_for r (m.handed l f)) else l) tt answer l' tt
+      → Step restarts_told steps_told (if v then Untouched else Untouched) (λ x. if v then m.answer l f (reply_for r (m.handed l f)) else None)
+      (λ x. if v then m.after l f (reply_for r (m.handed l f)) else l) tt answer l' tt
   meets_one r l answer l' reply true s t same =
       record { reply = None; far = (refl, refl); says = s ∙ ap (m.answer l f) (same refl); left = t ∙ ap (m.after l f) (same refl) }
   meets_one r l answer l' reply false s t same = record { reply = None; far = (refl, refl); says = s; left = t }
@@ -125,7 +127,8 @@ module _ {L A : Type 0} (m : Machine L) (restarts : A → List ℕ → A → Typ
       )
 
   -- where it hands nothing over, any reply would do
-  all_any : (r : List ℕ) (before : List L) (l : L) (behind : List L) (far far' : A) (said : List Signal) (ls' : List L) → EachQuiet m f before → EachQuiet m f behind → payload_handed (hands_over m l f) ≡ None
+  all_any : (r : List ℕ) (before : List L) (l : L) (behind : List L) (far far' : A) (said : List Signal) (ls' : List L) → EachQuiet m f before → EachQuiet m f behind
+      → payload_handed (hands_over m l f) ≡ None
       → HearAll m restarts steps f (before ++ l ∷ behind) far said ls' far' → AllAnswer r (before ++ l ∷ behind) said ls'
   all_any r [] l behind far far' said ls' p q e h =
       (h.0, h.1, h.2, tt, h.4, meets_by r l far h.3 h.0 h.2 h.5 (did_nothing r (hands_over m l f) far h.3 h.5.reply h.5.far e), (all_quiet r behind h.3 far' h.1 h.4 q h.6).1, h.7, h.8)
@@ -211,7 +214,8 @@ module _ {L A : Type 0} (m : Machine L) (restarts : A → List ℕ → A → Typ
           listeners = h.listeners;
           all = a;
           back = h.back;
-          left = h.left ∙ brought_same r (after_event old (Request f Pass) (later_fates old.fates) (record { lit = true; listeners = h.listeners })) (joint h.answers) (first_fate (later_fates old.fates));
+          left = h.left ∙ brought_same r (after_event old (Request f Pass) (later_fates old.fates) (record { lit = true; listeners = h.listeners })) (joint h.answers)
+              (first_fate (later_fates old.fates));
         }
 
     abbrev ByFate : Fate → Air L → A → Option Heard → Air L → A → Type 0

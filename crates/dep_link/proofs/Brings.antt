@@ -40,7 +40,8 @@ pub stays_some : (n : ℕ) (chain : List ℕ) (ps : List (List ℕ)) (vs : List 
 stays_some n chain ps [] e = e
 stays_some n chain ps (Info false more pni x ∷ vs) e =
     if_cut (λ c. SomeBy c vs ≡ true) (pni == n) _ _
-    (more_cut (λ c. SomeBy c vs ≡ true) n chain (chain ++ x.items) ps more (stays_some (after n) (chain ++ x.items) ps vs e) (stays_some (after n) [] (ps ++ (chain ++ x.items) ∷ []) vs (some_more ps (chain ++ x.items))))
+    (more_cut (λ c. SomeBy c vs ≡ true) n chain (chain ++ x.items) ps more (stays_some (after n) (chain ++ x.items) ps vs e)
+    (stays_some (after n) [] (ps ++ (chain ++ x.items) ∷ []) vs (some_more ps (chain ++ x.items))))
     (stays_some n chain ps vs e)
 stays_some n chain ps (Info true more pni x ∷ vs) e = stays_some n chain ps vs e
 stays_some n chain ps (Ack false pni ∷ vs) e = if_cut (λ c. SomeBy c vs ≡ true) (pni == n) _ _ (stays_some (after n) chain ps vs e) (stays_some n chain ps vs e)
@@ -99,7 +100,8 @@ goes_on n None vs all l = l
 goes_on n (Some v) vs all l = goes_frame n l.chain v vs all l.same
 
 -- one request more, by its fate
-by_fate_on : (n : ℕ) (x : Fate) (f : Signal) (fs : List Signal) (all : Bool) → Left n (frames_of (with_arrived f x fs)) all → Goes (by_fate x (taken_as n (spelled f)) Passed Passed) n (frames_of fs) all
+by_fate_on : (n : ℕ) (x : Fate) (f : Signal) (fs : List Signal) (all : Bool) → Left n (frames_of (with_arrived f x fs)) all
+    → Goes (by_fate x (taken_as n (spelled f)) Passed Passed) n (frames_of fs) all
 by_fate_on n Pass f fs all l = goes_on n (spelled f) (frames_of fs) all l
 by_fate_on n Damage f fs all l = l
 by_fate_on n Lose f fs all l = l

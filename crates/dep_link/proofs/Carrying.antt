@@ -1,5 +1,6 @@
 -- A swap on a link that is ready, by how its exchange ends.
-use Rattle.std.proofs.Common.{◌≡◌, ℕ, ◌+◌, ◌<◌, ◌≤◌, ◌==◌, inl, inr, List, [], ◌∷◌, ◌++◌, length, drop, Bool, true, false, if◌then◌else◌, Option, Some, None, Ok, Err, refl, sym, ◌∙◌, ap, subst, arith, append_assoc, append-nil, length-append}
+use Rattle.std.proofs.Common.{◌≡◌, ℕ, ◌+◌, ◌<◌, ◌≤◌, ◌==◌, inl, inr, List, [], ◌∷◌, ◌++◌, length, drop, Bool, true, false, if◌then◌else◌, Option, Some, None, Ok, Err, refl, sym, ◌∙◌, ap, subst, arith}
+use Rattle.std.proofs.Common.{append_assoc, append-nil, length-append}
 use Rattle.std.specs.Prelude.{slice_index}
 use Rattle.std.specs.Global.{Vec}
 use Rattle.std.proofs.lemmas.List.{append_cancel_left, drop-append-le}
@@ -73,7 +74,8 @@ pub cut_then : (c : Cut) (vs ws : List DepFrame) → cut_by c (vs ++ ws) ≡ cut
 cut_then c [] ws = refl
 cut_then c (v ∷ vs) ws = cut_then (taken c v) vs ws
 
-module _ {L F : Type 0} (k : Ghosts L) (target : L → TargetState) (steps : F → List ℕ → List ℕ → F → Type 0) (stops : F → List ℕ → F → Type 0) (a : DepSeen L) (open_link : a.over ≡ None) (r : IsDepReady k target a)
+module _ {L F : Type 0} (k : Ghosts L) (target : L → TargetState) (steps : F → List ℕ → List ℕ → F → Type 0) (stops : F → List ℕ → F → Type 0) (a : DepSeen L) (open_link : a.over ≡ None)
+    (r : IsDepReady k target a)
     (out : List ℕ) (short : length out ≤ limit) (bytes : (i : ℕ) → slice_index out i < 256) (far far' : F) where
   -- where the link stands then
   abbrev pub at : Air L → InitState → Option EndCause → DepSeen L
@@ -99,7 +101,8 @@ module _ {L F : Type 0} (k : Ghosts L) (target : L → TargetState) (steps : F �
     start_is = let l = r.start in let e = ap length trace in let s = length-append a.air.trace events in omega (arith, l, e, s)
 
   -- the payload came exactly where a reply was given
-  came : (new : Air L) (given : Option (List ℕ)) (s : Standing) (x : Turns new given s) → brings_payload a.initiator.core.number (frames_of (arrived (drop (length a.air.trace) new.trace))) ≡ is_some (delivered_of out given)
+  came : (new : Air L) (given : Option (List ℕ)) (s : Standing) (x : Turns new given s) → brings_payload a.initiator.core.number (frames_of (arrived (drop (length a.air.trace) new.trace)))
+      ≡ is_some (delivered_of out given)
   came new given s x =
       let ps : List (List ℕ) = brought a.first (since a) in
       let bs : List DepFrame = frames_of (arrived x.events) in
@@ -108,8 +111,10 @@ module _ {L F : Type 0} (k : Ghosts L) (target : L → TargetState) (steps : F �
       let from : cut_by (begins a.first) (frames_of (arrived (since a))) ≡ cut a.initiator.core.number [] ps =
       r.peer.cut ∙ ap (λ (n : ℕ). cut n (target r.peer.listener).chain ps) r.peer.step.expects ∙ ap (λ (xs : List ℕ). cut a.initiator.core.number xs ps) r.peer.step.no_chain in
       let front : (cut_by (cut a.initiator.core.number [] ps) bs).payloads ≡ ps ++ payloads a.initiator.core.number bs =
-      subst (λ (qs : List (List ℕ)). (cut_by (cut a.initiator.core.number [] qs) bs).payloads ≡ ps ++ payloads a.initiator.core.number bs) (append-nil ps) (payloads_behind ps bs a.initiator.core.number [] []) in
-      let same : ps ++ payloads a.initiator.core.number bs ≡ ps ++ delivered_of out given = sym front ∙ sym (ap (λ (c : Cut). (cut_by c bs).payloads) from) ∙ sym (ap (λ (c : Cut). c.payloads) all) ∙ x.brings in
+      subst (λ (qs : List (List ℕ)). (cut_by (cut a.initiator.core.number [] qs) bs).payloads ≡ ps ++ payloads a.initiator.core.number bs) (append-nil ps)
+      (payloads_behind ps bs a.initiator.core.number [] []) in
+      let same : ps ++ payloads a.initiator.core.number bs ≡ ps ++ delivered_of out given = sym front ∙ sym (ap (λ (c : Cut). (cut_by c bs).payloads) from) ∙ sym (ap (λ (c : Cut). c.payloads) all)
+      ∙ x.brings in
       let events : drop (length a.air.trace) new.trace ≡ x.events = ap (drop (length a.air.trace)) x.trace ∙ drop-append_seam a.air.trace x.events in
       ap (λ (es : List Event). brings_payload a.initiator.core.number (frames_of (arrived es))) events
       ∙ ap is_some (append_cancel_left ps (payloads a.initiator.core.number bs) (delivered_of out given) same)
@@ -123,7 +128,8 @@ module _ {L F : Type 0} (k : Ghosts L) (target : L → TargetState) (steps : F �
     abbrev Lost : Option EndCause → Type 0
     Lost over = over ≡ Some FieldLost → (breaks (since a) < breaks (since (at new j over))) × (new.lit ≡ false)
 
-    exchanged : (over : Option EndCause) (s : Standing) → StandsAt over None j s → Turns new None s → Noisy over → Lost over → PayloadExchanged k target a (at new j over) (record { out = out; did = [] })
+    exchanged : (over : Option EndCause) (s : Standing) → StandsAt over None j s → Turns new None s → Noisy over → Lost over
+        → PayloadExchanged k target a (at new j over) (record { out = out; did = [] })
     exchanged over s st x n f =
         record { begins = open_link; start = r.start; peer = r.peer; same = (refl, refl); last = last; short = short; bytes = bytes; exchange = (s, x, st); noisy = n; lost = f }
 
@@ -133,7 +139,8 @@ module _ {L F : Type 0} (k : Ghosts L) (target : L → TargetState) (steps : F �
         record { begins = open_link; start = r.start; peer = r.peer; same = (refl, refl); last = last; short = short; bytes = bytes; exchange = (refl, (s, x, st)); noisy = n; lost = f }
 
     -- the reply came
-    pub carried : (reply : Vec ℕ) → EndsBy k target steps stops a.air new r.peer.listener a.initiator j a.first (brought a.first (since a)) (arrived (since a)) out far far' (Ok (record { items = reply.items }))
+    pub carried : (reply : Vec ℕ) → EndsBy k target steps stops a.air new r.peer.listener a.initiator j a.first (brought a.first (since a)) (arrived (since a)) out far far'
+        (Ok (record { items = reply.items }))
         → Carries k target steps stops a (at new j None) out far far' (Ok reply)
     carried reply (x, step, lit, peer) =
         let P : List (List ℕ) → List Signal → Type 0 = λ ps fs. HasPeer k target new j a.first ps fs in
@@ -153,7 +160,8 @@ module _ {L F : Type 0} (k : Ghosts L) (target : L → TargetState) (steps : F �
 
     -- the exchange was broken off by this cause
     under_way : (cause : EndCause) (given : Option (List ℕ)) (s : Standing) (x : Turns new given s) → GivenBy steps far out given far' → StandsAt (Some cause) given j s → Lost (Some cause)
-        → (noise (since (at new j (Some cause))) ≡ noise (since a) → cause ≡ Memory) → Carries k target steps stops a (at new j (Some cause)) out far far' (Err (record { cause = cause; answered = is_some (delivered_of out given) }))
+        → (noise (since (at new j (Some cause))) ≡ noise (since a) → cause ≡ Memory) → Carries k target steps stops a (at new j (Some cause)) out far far'
+        (Err (record { cause = cause; answered = is_some (delivered_of out given) }))
     under_way cause None s x g st f calm = ([], record { exchanged = exchanged (Some cause) s st x (never_calm cause calm) f; far_moved = g }, inl refl, refl, calm)
     under_way cause (Some reply) s x g st f calm =
         (Stepped out reply ∷ [], record { exchanged = exchanged_step (Some cause) reply s st x (never_calm cause calm) f; far_moved = (far', g, refl) }, (reply, refl), refl, calm)
@@ -164,7 +172,8 @@ module _ {L F : Type 0} (k : Ghosts L) (target : L → TargetState) (steps : F �
     lost_there : (given : Option (List ℕ)) (s : Standing) (x : Turns new given s) → 0 < breaks x.events → new.lit ≡ false → Lost (Some FieldLost)
     lost_there given s x p dark e = (let n = breaks_is new j (Some FieldLost) x.events x.trace in omega (arith, p, n), dark)
 
-    told : (cause : EndCause) (given : Option (List ℕ)) (s : Standing) (x : Turns new given s) (answered : Bool) → answered ≡ brings_payload a.initiator.core.number (frames_of (arrived (drop (length a.air.trace) new.trace)))
+    told : (cause : EndCause) (given : Option (List ℕ)) (s : Standing) (x : Turns new given s) (answered : Bool)
+        → answered ≡ brings_payload a.initiator.core.number (frames_of (arrived (drop (length a.air.trace) new.trace)))
         → Carries k target steps stops a (at new j (Some cause)) out far far' (Err (record { cause = cause; answered = is_some (delivered_of out given) }))
         → Carries k target steps stops a (at new j (Some cause)) out far far' (Err (record { cause = cause; answered = answered }))
     told cause given s x answered e c =
@@ -187,7 +196,18 @@ module _ {L F : Type 0} (k : Ghosts L) (target : L → TargetState) (steps : F �
     stopped (x, stop) = (
       Stopped out ∷ [],
       record {
-        exchanged = record { begins = open_link; start = r.start; peer = r.peer; same = (refl, refl); last = last; short = short; bytes = bytes; exchange = (refl, x, refl); noisy = λ e q. cc; lost = λ e. absurd cc };
+        exchanged = record {
+          begins = open_link;
+          start = r.start;
+          peer = r.peer;
+          same = (refl, refl);
+          last = last;
+          short = short;
+          bytes = bytes;
+          exchange = (refl, x, refl);
+          noisy = λ e q. cc;
+          lost = λ e. absurd cc;
+        };
         far_moved = (stop, refl);
       },
       inr (refl, refl),
@@ -210,7 +230,10 @@ module _ {L F : Type 0} (k : Ghosts L) (target : L → TargetState) (steps : F �
         stands = refl;
       } in (
         [],
-        record { exchanged = exchanged a.air (begun a.initiator out) refl (Some Memory) (asks a.initiator out) (air_frame (request (begun a.initiator out).core), refl) x (λ q m. cc) (λ q. absurd cc); far_moved = e },
+        record {
+          exchanged = exchanged a.air (begun a.initiator out) refl (Some Memory) (asks a.initiator out) (air_frame (request (begun a.initiator out).core), refl) x (λ q m. cc) (λ q. absurd cc);
+          far_moved = e;
+        },
         inl refl,
         refl,
         λ z. refl,

@@ -1,5 +1,6 @@
 -- The initiator at the target's answers, and at bad receptions, while an exchange is under way.
-use Rattle.std.proofs.Common.{◌≡◌, ◌⊎◌, ℕ, ◌+◌, ◌-◌, ◌*◌, ◌<◌, ◌≤◌, nat_lt, Bool, true, false, List, [], ◌++◌, length, take, drop, Option, Some, None, inl, inr, refl, sym, ◌∙◌, ap, subst, arith, take_all}
+use Rattle.std.proofs.Common.{◌≡◌, ◌⊎◌, ℕ, ◌+◌, ◌-◌, ◌*◌, ◌<◌, ◌≤◌, nat_lt, Bool, true, false, List, [], ◌++◌, length, take, drop, Option, Some, None, inl, inr, refl, sym, ◌∙◌, ap, subst, arith}
+use Rattle.std.proofs.Common.{take_all}
 use Rattle.std.proofs.lemmas.Bool.{lt-ltb, ltb-true}
 use Rattle.std.proofs.lemmas.List.{drop_all}
 use Rattle.nfc_base.specs.Signal.{Signal}
@@ -18,7 +19,8 @@ use Rattle.nfc_base.specs.Pieces.{Core, most_bads, most_extensions, longest_exte
 use Rattle.dep_link.specs.Initiator.{InitState, InitMove, InitTurn, Gives, sent, sends, bad, answered, waited, whole, damaged, silent, framed, framed_next, init_table}
 use Rattle.dep_link.specs.Exchange.{nfc_dep, initiator_does, InStep}
 use Rattle.dep_link.proofs.Wire.{written_read, is_piece}
-use Rattle.nfc_base.proofs.Chains.{same, not_lt, le_from_not, pieces_drop, not_refused, Acked, Answered, Held, of_chain, of_reply, of_time, held_left, worse, held_worse, held_more, longer, time_granted, sent_on, ack_heard, got_on, piece_heard}
+use Rattle.nfc_base.proofs.Chains.{same, not_lt, le_from_not, pieces_drop, not_refused, Acked, Answered, Held, of_chain, of_reply, of_time, held_left, worse, held_worse, held_more, longer}
+use Rattle.nfc_base.proofs.Chains.{time_granted, sent_on, ack_heard, got_on, piece_heard}
 use Rattle.dep_link.proofs.Standing.{after_small, dep_ends, Stands, asking, drawing, granting, held, granted, Ask, asks, nacks, attends, HasAsked, Wait, has, stays_up}
 
 module _ (first m k : ℕ) (out : List ℕ) where

@@ -1,6 +1,7 @@
 -- The target at the initiator's frames, while an exchange is under way: it answers what it has, takes the next piece, or hands the
 -- whole payload over for the first time.
-use Rattle.std.proofs.Common.{◌≡◌, ℕ, ◌+◌, ◌-◌, ◌*◌, ◌<◌, ◌≤◌, nat_lt, Bool, true, false, List, [], ◌∷◌, ◌++◌, length, take, drop, Option, Some, None, inl, inr, refl, sym, ◌∙◌, ap, subst, arith, take_all}
+use Rattle.std.proofs.Common.{◌≡◌, ℕ, ◌+◌, ◌-◌, ◌*◌, ◌<◌, ◌≤◌, nat_lt, Bool, true, false, List, [], ◌∷◌, ◌++◌, length, take, drop, Option, Some, None, inl, inr, refl, sym, ◌∙◌, ap, subst, arith}
+use Rattle.std.proofs.Common.{take_all}
 use Rattle.std.proofs.lemmas.Bool.{lt-ltb, ltb-true}
 use Rattle.nfc_base.specs.Signal.{Signal}
 use Rattle.nfc_base.specs.StopAndWait.{Quiet, Deliver}
@@ -12,13 +13,15 @@ use Rattle.dep_pdu.specs.Spelling.{IsDepFrame}
 use Rattle.dep_link.specs.declared.initiator.Phase.TheVariants.{Asked}
 use Rattle.dep_link.specs.Sizes.{limit}
 use Rattle.dep_link.specs.Frames.{air_frame, after, before, piece}
-use Rattle.dep_link.specs.Target.{TargetState, TargetMove, TargetTurn, Does, Stays, Answers, Begins, Delivers, Sleeps, Frees, framed, framed_does, target_table, heeded, first_piece, replied, reply_frame}
+use Rattle.dep_link.specs.Target.{TargetState, TargetMove, TargetTurn, Does, Stays, Answers, Begins, Delivers, Sleeps, Frees, framed, framed_does, target_table, heeded, first_piece, replied}
+use Rattle.dep_link.specs.Target.{reply_frame}
 use Rattle.nfc_base.specs.Pieces.{Core, most_bads, pieces}
 use Rattle.dep_link.specs.Initiator.{InitState, asked, request}
 use Rattle.dep_link.specs.Payloads.{taken}
 use Rattle.dep_link.specs.Exchange.{nfc_dep, target_does, IsCut}
 use Rattle.dep_link.proofs.Wire.{target_heeds, is_piece, cut_of, cuts_on, cuts_same}
-use Rattle.nfc_base.proofs.Chains.{same, not_lt, le_from_not, chain_fits, Asking, Drawing, Acked, Answered, Extending, of_chain, of_reply, of_time, last_of, piece_taken, time_asked, first_sent, reply_drawn, time_again, time_over, more, Fits}
+use Rattle.nfc_base.proofs.Chains.{same, not_lt, le_from_not, chain_fits, Asking, Drawing, Acked, Answered, Extending, of_chain, of_reply, of_time, last_of, piece_taken, time_asked, first_sent}
+use Rattle.nfc_base.proofs.Chains.{reply_drawn, time_again, time_over, more, Fits}
 use Rattle.dep_link.proofs.Standing.{not_after, before_after, dep_ends, Stands, asking, drawing, granting, held, granted, HasAsked, Ask, asks, nacks, attends, Wait, has, stays_up}
 
 module _ (first m k : ℕ) (out : List ℕ) where

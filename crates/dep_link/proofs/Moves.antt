@@ -13,7 +13,8 @@ use Rattle.dep_link.specs.declared.initiator.Phase.TheVariants.{Asked, Nacked, A
 use Rattle.dep_link.specs.declared.initiator.InitStep.TheVariants as steps
 use Rattle.dep_link.specs.Sizes.{limit}
 use Rattle.dep_link.specs.Frames.{after, spelled}
-use Rattle.dep_link.specs.Initiator.{InitState, InitMove, InitTurn, Next, Asks, Gives, GivesUp, Refuses, framed, framed_next, FaultsStay, sends, refuses, bad, received, acked, brought, answered, attended, waited, attending, whole, damaged, silent, heard_next, init_table}
+use Rattle.dep_link.specs.Initiator.{InitState, InitMove, InitTurn, Next, Asks, Gives, GivesUp, Refuses, framed, framed_next, FaultsStay, sends, refuses, bad, received, acked, brought, answered}
+use Rattle.dep_link.specs.Initiator.{attended, waited, attending, whole, damaged, silent, heard_next, init_table}
 
 abbrev pub after_attention : Phase → ℕ
 after_attention Attending = 1

@@ -171,7 +171,8 @@ module _ {L : Type 0} (k : Ghosts L) (laws : Laws k) (target : L → TargetState
         let heard : hears k.machine l f ≡ true = hears_asked l f a c.tech in
         let uses : hands_over k.machine l f ≡ target_use (target_table (target l) f).does = ap (λ v. if v then k.machine.handed l f else Untouched) heard ∙ s0.asks in
         let t : AnsweredTurn k.machine restarts steps f (hands_over k.machine l f) old far h new far' =
-        answered_turn k.machine restarts steps f alone.before l alone.behind (each_quiet own f a alone.before alone.first) (each_quiet own f a alone.behind alone.later) old far h new far' alone.split turn in
+        answered_turn k.machine restarts steps f alone.before l alone.behind (each_quiet own f a alone.before alone.first) (each_quiet own f a alone.behind alone.later) old far h new far' alone.split
+        turn in
         let r : List ℕ = t.reply in
         let s : StepsByTarget k target l f r = c.steps_on [] tt f a r t.short in
         let o : Option Signal = (step (nfc_dep first) r (target l) f).answer in
@@ -191,7 +192,8 @@ module _ {L : Type 0} (k : Ghosts L) (laws : Laws k) (target : L → TargetState
             fits = t.short;
             answering =
                 same_view (nfc_dep first) m target l f r x y (s.target_is ∙ sym (settled_state first r (target_table (target l) f).state (target_table (target l) f).does))
-                (subst (λ (z : L). target (k.machine.darkened z) ≡ darkened (target z)) refl (c.cleared (record { frame = f; reply = r } ∷ []) (record { asked = a; short = t.short }, tt))) (c.cleared [] tt);
+                (subst (λ (z : L). target (k.machine.darkened z) ≡ darkened (target z)) refl (c.cleared (record { frame = f; reply = r } ∷ []) (record { asked = a; short = t.short }, tt)))
+                (c.cleared [] tt);
             heard_is = comes.told ∙ sym (same_heard (nfc_dep first) r (target l) f x y);
             events = comes.trace ∙ ap (λ (es : List Event). old.trace ++ es) (sym (same_events (nfc_dep first) r (target l) f x y));
             moved = subst (λ (p : Option (List ℕ)). MovedBy steps far p r far') (sym (same_asked first r (target l) f x y ∙ ap (handed_by x) (sym uses)))

@@ -39,7 +39,8 @@ module _ {L : Type 0} (k : Ghosts L) (laws : Laws k) (target : L → TargetState
       go true e = e
       go false e = refl
 
-  module _ {F : Type 0} (restarts : F → List ℕ → F → Type 0) (steps : F → List ℕ → List ℕ → F → Type 0) (stops : F → List ℕ → F → Type 0) (is_stuck : F → Bool) (old new : Air L) (far far' : F) (t : TakesRls k target old) where
+  module _ {F : Type 0} (restarts : F → List ℕ → F → Type 0) (steps : F → List ℕ → List ℕ → F → Type 0) (stops : F → List ℕ → F → Type 0) (is_stuck : F → Bool) (old new : Air L) (far far' : F)
+      (t : TakesRls k target old) where
     by_result : (r : Result Heard AirFault) → QuietTransmits k.machine old rls_frame far r new far' → far' ≡ far
     by_result (Ok h) q = q.same
     by_result (Err air.FieldLost) (inl d) = d.2

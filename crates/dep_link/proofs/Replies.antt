@@ -48,7 +48,10 @@ no_more i ps = ap (cut_at i) (sym (append-nil ps))
 ack_takes : (i : InitState) (pni : ℕ) → Takes i (Ack true pni ∷ []) (acked i pni)
 ack_takes i pni =
     takes_if i (Ack true pni ∷ []) (if more_follows i.core then pni == i.core.number else false) _ _
-    (λ b. record { cut = λ n ps. rw (both_true (more_follows i.core) (pni == i.core.number) b) (no_more (record i { core = record i.core { number = after i.core.number } }) ps); rests = λ e. absurd (cc) })
+    (λ b. record {
+      cut = λ n ps. rw (both_true (more_follows i.core) (pni == i.core.number) b) (no_more (record i { core = record i.core { number = after i.core.number } }) ps);
+      rests = λ e. absurd (cc);
+    })
     (λ b. refuses_takes i (Ack true pni ∷ []))
 
 received_takes : (i : InitState) (pni : ℕ) (more : Bool) (x : ArrayVec ℕ) → (pni == i.core.number) ≡ true → Takes i (Info true more pni x ∷ []) (received i more (i.core.got ++ x.items))

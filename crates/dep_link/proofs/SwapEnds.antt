@@ -1,5 +1,6 @@
 -- One exchange with a peer, from the initiator's first frame to its end.
-use Rattle.std.proofs.Common.{◌≡◌, ℕ, ◌+◌, ◌<◌, ◌≤◌, inl, inr, List, [], ◌∷◌, ◌++◌, length, Bool, true, if◌then◌else◌, Option, Some, None, Ok, Err, refl, sym, ◌∙◌, ap, subst, arith, append-nil, length-append}
+use Rattle.std.proofs.Common.{◌≡◌, ℕ, ◌+◌, ◌<◌, ◌≤◌, inl, inr, List, [], ◌∷◌, ◌++◌, length, Bool, true, if◌then◌else◌, Option, Some, None, Ok, Err, refl, sym, ◌∙◌, ap, subst, arith, append-nil}
+use Rattle.std.proofs.Common.{length-append}
 use Rattle.nfc_base.specs.Signal.{Signal}
 use Rattle.nfc_base.specs.Trace.{noise}
 use Rattle.nfc_base.specs.Far.{Untouched, Hands}
@@ -31,7 +32,8 @@ use Rattle.dep_link.proofs.Moves.{whole_not_six}
 use Rattle.dep_link.specs.Stopping.{HeardUpTo}
 use Rattle.dep_link.proofs.Answered.{stopped_at, heard_up_to}
 use Rattle.dep_link.proofs.PeerTurns.{each_quiet, hears_asked}
-use Rattle.dep_link.proofs.Swapping.{OnPeer, HasBytes, begins_on, turn_on, turn_lost, noisy, broken, room, live, on_turns, lost_turns, turns_by, far_by, once_along, saying, never_protocol, replied_turns, hands, given_is, is_asked, last_peer, last_alone}
+use Rattle.dep_link.proofs.Swapping.{OnPeer, HasBytes, begins_on, turn_on, turn_lost, noisy, broken, room, live, on_turns, lost_turns, turns_by, far_by, once_along, saying, never_protocol}
+use Rattle.dep_link.proofs.Swapping.{replied_turns, hands, given_is, is_asked, last_peer, last_alone}
 
 -- what a target hands over it delivers
 use_delivers : (d : TargetStep) (p : List ℕ) → target_use d ≡ Hands p → target_does d ≡ Deliver p
@@ -42,7 +44,8 @@ use_delivers (does.Deliver payload) p e = (let z : payload.items ≡ p = cc in a
 use_delivers (does.Asleep f) p e = absurd (cc)
 use_delivers (does.Released f) p e = absurd (cc)
 
-module _ {L F : Type 0} (k : Ghosts L) (laws : Laws k) (target : L → TargetState) (restarts : F → List ℕ → F → Type 0) (steps : F → List ℕ → List ℕ → F → Type 0) (old : Air L) (i0 : InitState) (out : List ℕ)
+module _ {L F : Type 0} (k : Ghosts L) (laws : Laws k) (target : L → TargetState) (restarts : F → List ℕ → F → Type 0) (steps : F → List ℕ → List ℕ → F → Type 0) (old : Air L) (i0 : InitState)
+    (out : List ℕ)
     (first : ℕ) (handed : List (List ℕ)) (arrived : List Signal) (t : HasPeer k target old i0 first handed arrived) (far0 : F) where
   abbrev pub Here : Air L → F → InitState → Stage Signal → Standing → Type 0
   Here mid far i stage s = OnPeer k target steps t.listener i0 first handed arrived out far0 old mid t.place far i stage s
@@ -54,7 +57,8 @@ module _ {L F : Type 0} (k : Ghosts L) (laws : Laws k) (target : L → TargetSta
       (subst (λ (g : Signal). Here old far0 b (Requests g) (Waits b g)) (sym d)
       (begins_on k laws target restarts steps t.listener t.is i0 first handed arrived out far0 old t.place t.selected t.alone lit short t.step t.cut))
 
-  module _ (stops : F → List ℕ → F → Type 0) (is_stuck : F → Bool) (mid : Air L) (far : F) (i : InitState) (f : Signal) (bytes : HasBytes f) (o : Here mid far i (Requests f) (Waits i f)) (far' : F) (new : Air L) where
+  module _ (stops : F → List ℕ → F → Type 0) (is_stuck : F → Bool) (mid : Air L) (far : F) (i : InitState) (f : Signal) (bytes : HasBytes f) (o : Here mid far i (Requests f) (Waits i f)) (far' : F)
+      (new : Air L) where
     -- the initiator goes on by what it heard
     pub next_here : (h : Heard) → TurnIs k.machine restarts steps mid f far (Some h) new far' → (i' : InitState) (d : InitStep)
         → (let x : InitTurn = record { state = i'; does = d } in x) ≡ init_table i h → Here new far' i' (stage_of (initiator_does d)) (goes_by i' d)
@@ -89,7 +93,8 @@ module _ {L F : Type 0} (k : Ghosts L) (laws : Laws k) (target : L → TargetSta
           n.said,
           Broken cause.SixBad,
           on_turns k laws target restarts steps t.listener t.is i0 first handed arrived out far0 old new t.place far' i' (Over SixBad) (Broken cause.SixBad) n,
-          far_by k laws target restarts steps t.listener t.is i0 first handed arrived out far0 old.trace new.trace i' (target (reached k t.listener n.heard)) far' n.said (Over SixBad) n.along n.said refl,
+          far_by k laws target restarts steps t.listener t.is i0 first handed arrived out far0 old.trace new.trace i' (target (reached k t.listener n.heard)) far' n.said (Over SixBad) n.along n.said
+              refl,
           (refl, six_noisy h turn i' e n.along.added n.along.events),
         )
 
@@ -126,7 +131,8 @@ module _ {L F : Type 0} (k : Ghosts L) (laws : Laws k) (target : L → TargetSta
           o.said,
           Waits i f,
           on_turns k laws target restarts steps t.listener t.is i0 first handed arrived out far0 old mid t.place far i (Requests f) (Waits i f) o,
-          far_by k laws target restarts steps t.listener t.is i0 first handed arrived out far0 old.trace mid.trace i (target (reached k t.listener o.heard)) far o.said (Requests f) o.along o.said refl,
+          far_by k laws target restarts steps t.listener t.is i0 first handed arrived out far0 old.trace mid.trace i (target (reached k t.listener o.heard)) far o.said (Requests f) o.along o.said
+              refl,
           (f, refl),
         ))
     ends_memory (lit, inr s) e = absurd (let a = grown_by_one s in omega (arith, a, e))
@@ -154,7 +160,8 @@ module _ {L F : Type 0} (k : Ghosts L) (laws : Laws k) (target : L → TargetSta
         let said = given_is k laws target restarts steps b t.is i0 first handed arrived out far0 old mid t.place far i f bytes o in
         let none : o.along.world.given ≡ None = sym said.1 ∙ h.1 in
         let same : far ≡ far0 = subst (λ (g : Option (List ℕ)). turns.GivenBy steps far0 out g far) none said.0 in
-        let x = turns_by k laws target restarts steps b t.is i0 first handed arrived out far0 old mid i (target l) far o.said (Requests f) o.along None h.1 o.frames o.calm o.notes o.going (Waits i f) o.stands in
+        let x = turns_by k laws target restarts steps b t.is i0 first handed arrived out far0 old mid i (target l) far o.said (Requests f) o.along None h.1 o.frames o.calm o.notes o.going (Waits i f)
+        o.stands in
         let once = once_along k laws target restarts steps b t.is i0 first handed arrived out far0 old.trace mid.trace i (target l) (saying far o.said) (Requests f) o.along in
         let delivered : o.along.world.delivered ≡ handed = once.once ∙ ap (λ (g : Option (List ℕ)). handed ++ delivered_of out g) none ∙ append-nil handed in (
           record {

@@ -1,5 +1,6 @@
 -- What a swap on a link that is ready tells a carrier's caller.
-use Rattle.std.proofs.Common.{◌≡◌, ℕ, ◌≤◌, inl, inr, List, [], ◌∷◌, ◌++◌, drop, Bool, true, false, Option, Some, None, Result, Ok, Err, IfOk, refl, sym, ◌∙◌, ap, subst, arith, append_assoc, append-nil}
+use Rattle.std.proofs.Common.{◌≡◌, ℕ, ◌≤◌, inl, inr, List, [], ◌∷◌, ◌++◌, drop, Bool, true, false, Option, Some, None, Result, Ok, Err, IfOk, refl, sym, ◌∙◌, ap, subst, arith, append_assoc}
+use Rattle.std.proofs.Common.{append-nil}
 use Rattle.std.specs.Prelude.{not}
 use Rattle.std.specs.Result.{IfErr}
 use Rattle.std.specs.Global.{Vec}
@@ -159,18 +160,22 @@ module _ {L : Type 0} (k : Ghosts L) (target : L → TargetState) where
     abbrev One : C → List ℕ → List FarStep → C → Type 0
     One x sent did y = dep_swaps k target (see x) sent did (see y)
 
-    pub ok_swapped : (result : Result (Vec ℕ) LinkEnd) → Carries k target steps stops (see p) (see q) out far after result → IfOk result (λ r. Swapped One steps stops p out far q after (λ did. did ≡ Stepped out r.items ∷ []))
+    pub ok_swapped : (result : Result (Vec ℕ) LinkEnd) → Carries k target steps stops (see p) (see q) out far after result
+        → IfOk result (λ r. Swapped One steps stops p out far q after (λ did. did ≡ Stepped out r.items ∷ []))
     ok_swapped (Ok r) (c, over, ready) = record { did = Stepped out r.items ∷ []; link = c.exchanged; far_moved = c.far_moved; tells = refl }
     ok_swapped (Err e) c = tt
 
-    pub err_swapped : (result : Result (Vec ℕ) LinkEnd) → Carries k target steps stops (see p) (see q) out far after result → IfErr result (λ e. Swapped One steps stops p out far q after (AskedBy e.answered e.cause out))
+    pub err_swapped : (result : Result (Vec ℕ) LinkEnd) → Carries k target steps stops (see p) (see q) out far after result
+        → IfErr result (λ e. Swapped One steps stops p out far q after (AskedBy e.answered e.cause out))
     err_swapped (Ok r) c = tt
     err_swapped (Err e) (did, c, asked, over, calm) = record { did = did; link = c.exchanged; far_moved = c.far_moved; tells = asked }
 
     -- the same of a link that may be over
-    module _ (result : Result (Vec ℕ) LinkEnd) (ready : (see p).over ≡ None → IsDepReady k target (see p)) (does : (see p).over ≡ None → IsDepReady k target (see p) → Carries k target steps stops (see p) (see q) out far after result)
+    module _ (result : Result (Vec ℕ) LinkEnd) (ready : (see p).over ≡ None → IsDepReady k target (see p))
+        (does : (see p).over ≡ None → IsDepReady k target (see p) → Carries k target steps stops (see p) (see q) out far after result)
         (ended : (c : EndCause) → (see p).over ≡ Some c → (result ≡ Err (record { cause = c; answered = false })) × (q ≡ p) × (after ≡ far)) where
-      by_over : (P : Result (Vec ℕ) LinkEnd → Type 0) → (Carries k target steps stops (see p) (see q) out far after result → P result) → ((e : LinkEnd) → P (Err e)) → (o : Option EndCause) → (see p).over ≡ o → P result
+      by_over : (P : Result (Vec ℕ) LinkEnd → Type 0) → (Carries k target steps stops (see p) (see q) out far after result → P result) → ((e : LinkEnd) → P (Err e)) → (o : Option EndCause)
+          → (see p).over ≡ o → P result
       by_over P going refused None e = going (does e (ready e))
       by_over P going refused (Some c) e = subst P (sym (ended c e).0) (refused (record { cause = c; answered = false }))
 

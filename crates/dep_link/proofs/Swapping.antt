@@ -1,5 +1,6 @@
 -- An initiator that carries a payload to a peer keeps the law of the exchange, turn by turn.
-use Rattle.std.proofs.Common.{◌≡◌, ℕ, suc, ◌+◌, ◌-◌, ◌*◌, ◌<◌, ◌≤◌, ◌⊎◌, inl, inr, List, [], ◌∷◌, ◌++◌, length, slice_index, Bool, true, false, Option, Some, None, refl, sym, ◌∙◌, ap, subst, arith, append_assoc, append-nil}
+use Rattle.std.proofs.Common.{◌≡◌, ℕ, suc, ◌+◌, ◌-◌, ◌*◌, ◌<◌, ◌≤◌, ◌⊎◌, inl, inr, List, [], ◌∷◌, ◌++◌, length, slice_index, Bool, true, false, Option, Some, None, refl, sym, ◌∙◌, ap, subst, arith}
+use Rattle.std.proofs.Common.{append_assoc, append-nil}
 use Rattle.std.specs.List.{AllByRecursion}
 use Rattle.std.proofs.lemmas.List.{append_cancel_left}
 use Rattle.nfc_base.specs.Signal.{Signal}
@@ -177,7 +178,8 @@ record IsWhole (turn : Turned TargetState) : Type 0 where
   pub begins : back_of turn.events ≡ backs.Nothing
   pub bads : bad_receptions turn.events ≡ 0
 
-answered_whole : (first : ℕ) (t : TargetState) (asked : Option (List ℕ)) (f : Signal) (q : Option Signal) (y : Fate) (g : Signal) → Some (heards.Whole g) ≡ heard_in (turns.answered (nfc_dep first) t asked f q y).heard
+answered_whole : (first : ℕ) (t : TargetState) (asked : Option (List ℕ)) (f : Signal) (q : Option Signal) (y : Fate) (g : Signal)
+    → Some (heards.Whole g) ≡ heard_in (turns.answered (nfc_dep first) t asked f q y).heard
     → IsWhole (turns.answered (nfc_dep first) t asked f q y)
 answered_whole first t asked f None y g e = absurd cc
 answered_whole first t asked f (Some a) Pass g e = record { begins = refl; bads = refl }
@@ -185,7 +187,8 @@ answered_whole first t asked f (Some a) Damage g e = absurd cc
 answered_whole first t asked f (Some a) Lose g e = absurd cc
 answered_whole first t asked f (Some a) Break g e = absurd cc
 
-turned_whole : (first : ℕ) (r : List ℕ) (t : TargetState) (f : Signal) (x y : Fate) (g : Signal) → Some (heards.Whole g) ≡ heard_in (turned (nfc_dep first) r t f x y).heard → IsWhole (turned (nfc_dep first) r t f x y)
+turned_whole : (first : ℕ) (r : List ℕ) (t : TargetState) (f : Signal) (x y : Fate) (g : Signal) → Some (heards.Whole g) ≡ heard_in (turned (nfc_dep first) r t f x y).heard
+    → IsWhole (turned (nfc_dep first) r t f x y)
 turned_whole first r t f Pass y g e = answered_whole first (step (nfc_dep first) r t f).state (step (nfc_dep first) r t f).asked f (step (nfc_dep first) r t f).answer y g e
 turned_whole first r t f Damage y g e = absurd cc
 turned_whole first r t f Lose y g e = absurd cc
@@ -256,7 +259,8 @@ module _ {L : Type 0} (k : Ghosts L) (laws : Laws k) where
         dark_of : TargetState → TargetState
         dark_of t = (nfc_dep 0).dark t
 
-    module _ {F : Type 0} (restarts : F → List ℕ → F → Type 0) (steps : F → List ℕ → List ℕ → F → Type 0) (begin : L) (c : IsPeer k target begin) (i0 : InitState) (first : ℕ) (handed : List (List ℕ)) (arrived : List Signal)
+    module _ {F : Type 0} (restarts : F → List ℕ → F → Type 0) (steps : F → List ℕ → List ℕ → F → Type 0) (begin : L) (c : IsPeer k target begin) (i0 : InitState) (first : ℕ) (handed : List (List ℕ))
+        (arrived : List Signal)
         (out : List ℕ) (far0 : F) where
       abbrev pub The : Keeps (nfc_dep first) out
       The = keeps first (target begin).most (target begin).busy out
@@ -332,12 +336,14 @@ module _ {L : Type 0} (k : Ghosts L) (laws : Laws k) where
         given_is = given_far steps far0 far out o.said o.along.world.given o.along.given
 
         -- what the target delivers then is the payload, for the first time
-        pub hands : (p : List ℕ) → (nfc_dep first).does (target last) f ≡ Deliver p → (p ≡ out) × (o.said ≡ None) × IsCut first (replied ((nfc_dep first).heard (target last) f) []) (o.along.world.delivered ++ p ∷ []) (o.along.world.arrived ++ f ∷ [])
+        pub hands : (p : List ℕ) → (nfc_dep first).does (target last) f ≡ Deliver p → (p ≡ out) × (o.said ≡ None)
+            × IsCut first (replied ((nfc_dep first).heard (target last) f) []) (o.along.world.delivered ++ p ∷ []) (o.along.world.arrived ++ f ∷ [])
         hands p e =
             let t : TargetState = o.along.world.answering in
             let d : (nfc_dep first).does t f ≡ Deliver p = subst (λ (x : TargetState). (nfc_dep first).does x f ≡ Deliver p) (sym o.along.answering) e in
             let h = hands_at first (target begin).most (target begin).busy out o.along.world.asking t o.along.world.given f now.0 now.1 p d in
-            let cut : IsCut first (replied ((nfc_dep first).heard t f) []) (o.along.world.delivered ++ p ∷ []) (o.along.world.arrived ++ f ∷ []) = h.2 o.along.world.delivered o.along.world.arrived now.2.stood in (
+            let cut : IsCut first (replied ((nfc_dep first).heard t f) []) (o.along.world.delivered ++ p ∷ []) (o.along.world.arrived ++ f ∷ []) =
+            h.2 o.along.world.delivered o.along.world.arrived now.2.stood in (
               h.0,
               given_is.1 ∙ h.1,
               subst (λ (x : TargetState). IsCut first (replied ((nfc_dep first).heard x f) []) (o.along.world.delivered ++ p ∷ []) (o.along.world.arrived ++ f ∷ [])) o.along.answering cut,
@@ -365,14 +371,16 @@ module _ {L : Type 0} (k : Ghosts L) (laws : Laws k) where
             moved = moved_says steps far far' o.said turn_is.asked t.turn.reply t.turn.moved;
           }
 
-          onward : Onward (nfc_dep first) handed out The (2 * pieces i0.core.most out) (Replying F) (says steps) arrived old.trace (saying far0 None) i h (target t.left) new.trace (saying far' said_now)
+          onward : Onward (nfc_dep first) handed out The (2 * pieces i0.core.most out) (Replying F) (says steps) arrived old.trace (saying far0 None) i h (target t.left) new.trace
+              (saying far' said_now)
           onward =
               goes_along (nfc_dep first) handed out The (2 * pieces i0.core.most out) (Replying F) (says steps) arrived old.trace (saying far0 None)
               i (target last) (target t.left) mid.trace new.trace (saying far o.said) (saying far' said_now) f h o.along said_turn
 
           framed_now : Framed old.trace new.trace
           framed_now =
-              framed_more old.trace mid.trace new.trace o.along.added turn_is.events o.along.events t.turn.events o.frames (turned_frames first t.turn.reply (target last) f t.turn.first t.turn.second bytes)
+              framed_more old.trace mid.trace new.trace o.along.added turn_is.events o.along.events t.turn.events o.frames
+              (turned_frames first t.turn.reply (target last) f t.turn.first t.turn.second bytes)
 
           one_more : (r : List ℕ) → MayReply o.said r → QuietTurn {A = Told} (answering k.machine r) mid f tt h new tt
               → Going (answering_air k.machine r) (dep_next i0 out) (moment old) (moment new) (o.notes ++ note h ∷ [])
@@ -419,7 +427,8 @@ module _ {L : Type 0} (k : Ghosts L) (laws : Laws k) where
           whole_calm : (g : Signal) → Some (heards.Whole g) ≡ heard_in turn_is.heard → Calm old.trace new.trace
           whole_calm g w es e none =
               let same : es ≡ o.along.added ++ turn_is.events =
-              append_cancel_left old.trace es (o.along.added ++ turn_is.events) (sym e ∙ t.turn.events ∙ ap (λ (xs : List Event). xs ++ turn_is.events) o.along.events ∙ append_assoc old.trace o.along.added turn_is.events) in
+              append_cancel_left old.trace es (o.along.added ++ turn_is.events) (sym e ∙ t.turn.events ∙ ap (λ (xs : List Event). xs ++ turn_is.events) o.along.events
+              ∙ append_assoc old.trace o.along.added turn_is.events) in
               let z : IsWhole turn_is = turned_whole first t.turn.reply (target last) f t.turn.first t.turn.second g w in
               let all : noise es ≡ noise o.along.added + noise turn_is.events = ap noise same ∙ noise_append o.along.added turn_is.events in
               let before : bad_receptions o.along.added ≡ 0 = o.calm o.along.added o.along.events (omega (arith, all, none)) in

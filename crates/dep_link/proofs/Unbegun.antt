@@ -7,7 +7,8 @@ use Rattle.dep_pdu.specs.declared.frame.DepFrame.TheVariants.{AtrReq, AtrRes, In
 use Rattle.dep_pdu.specs.Spelling.{IsDepFrame}
 use Rattle.dep_link.specs.Sizes.{limit}
 use Rattle.dep_link.specs.Frames.{after}
-use Rattle.dep_link.specs.Target.{TargetState, TargetMove, Does, Stays, Answers, Begins, Delivers, Sleeps, Frees, stays, again, repeated, grown, gathered, drawn, extended, heeded, framed, framed_does, target_table}
+use Rattle.dep_link.specs.Target.{TargetState, TargetMove, Does, Stays, Answers, Begins, Delivers, Sleeps, Frees, stays, again, repeated, grown, gathered, drawn, extended, heeded, framed, framed_does}
+use Rattle.dep_link.specs.Target.{target_table}
 use Rattle.dep_link.specs.Peers.{target_use, IsAskedFrame, IsAsked}
 use Rattle.dep_link.proofs.Wire.{target_heeds}
 

@@ -1,6 +1,7 @@
--- How an initiator activates a peer by ATR_REQ (NFCIP-1, ISO/IEC 18092). The NFCID3 of the initiator, and how often ATR_REQ is sent
--- again, are this project's own.
-use Rattle.std.specs.Prelude.{◌≡◌, ◌⊎◌, ℕ, zero, suc, ◌<◌, List, [], ◌∷◌, ◌++◌, length, Bool, true, false, Option, Some, None, is_some, Result, Ok, Err}
+-- How an initiator activates a peer by ATR_REQ (NFCIP-1, ISO/IEC 18092). The NFCID3 of the initiator, and how often
+-- ATR_REQ is sent again, are this project's own.
+use Rattle.std.specs.Prelude.{◌≡◌, ◌⊎◌, ℕ, zero, suc, ◌<◌, List, [], ◌∷◌, ◌++◌, length, Bool, true, false, Option, Some}
+use Rattle.std.specs.Prelude.{None, is_some, Result, Ok, Err}
 use Rattle.nfc_base.specs.Signal.{Signal}
 use Rattle.nfc_base.specs.declared.frame.Tech.TheVariants.{A}
 use Rattle.nfc_base.specs.LinkTurns as turns
@@ -52,7 +53,8 @@ is_atr_res f = is_some (told_atr (spelled f))
 -- a far end that was restarted so often with these general bytes
 abbrev pub RestartedTimes : {F : Type 0} → (F → List ℕ → F → Type 0) → List ℕ → ℕ → F → F → Type 0
 RestartedTimes restarts general zero far after = after ≡ far
-RestartedTimes {F} restarts general (suc n) far after = (mid : F) × RestartedTimes restarts general n far mid × restarts mid general after
+RestartedTimes {F} restarts general (suc n) far after =
+    (mid : F) × RestartedTimes restarts general n far mid × restarts mid general after
 
 module _ {L : Type 0} (k : Ghosts L) (target : L → TargetState) where
   -- a listener that heard a frame so many times in a row
@@ -60,8 +62,8 @@ module _ {L : Type 0} (k : Ghosts L) (target : L → TargetState) where
   sent_times l f zero = l
   sent_times l f (suc n) = heard_with k (sent_times l f n) f []
 
-  -- A selected listener takes this ATR_REQ, however often it hears it in a row: it does what the target's table says, and is a peer
-  -- then. What it says of itself is in range, and so is the time that it asks for.
+  -- A selected listener takes this ATR_REQ, however often it hears it in a row: it does what the target's table says,
+  -- and is a peer then. What it says of itself is in range, and so is the time that it asks for.
   pub record TakesAtr (l : L) (general : List ℕ) : Type 0 where
     pub tech : k.machine.tech l ≡ A
     pub says : IsDepFrame (atr_res (target l))
@@ -76,11 +78,14 @@ module _ {L : Type 0} (k : Ghosts L) (target : L → TargetState) where
     pub alone : IsAlone k (k.identifier listener) air.listeners place listener
     pub takes : TakesAtr listener general
 
-  -- From one moment to another ATR_REQ was sent again and again, and this is where its wait stands then. The far end was restarted as
-  -- often as it arrived. Nothing was handed over, so the air is the same under every reply. Where all passed no reception was bad.
-  pub record AtrSent {F : Type 0} (restarts : F → List ℕ → F → Type 0) (old new : Air L) (general : List ℕ) (far after : F) (s : Standing) : Type 0 where
+  -- From one moment to another ATR_REQ was sent again and again, and this is where its wait stands then. The far end
+  -- was restarted as often as it arrived. Nothing was handed over, so the air is the same under every reply. Where all
+  -- passed no reception was bad.
+  pub record AtrSent {F : Type 0} (restarts : F → List ℕ → F → Type 0) (old new : Air L) (general : List ℕ)
+      (far after : F) (s : Standing) : Type 0 where
     pub notes : List Note
-    pub going : (r : List ℕ) → Going (answering_air k.machine r) (waits_next (atr_frame general ∷ [])) (moment old) (moment new) notes
+    pub going : (r : List ℕ) → Going (answering_air k.machine r) (waits_next (atr_frame general ∷ [])) (moment old)
+        (moment new) notes
     pub stands : stand 0 (atr_frame general ∷ []) notes ≡ s
     pub events : List Event
     pub trace : new.trace ≡ old.trace ++ events
@@ -89,7 +94,8 @@ module _ {L : Type 0} (k : Ghosts L) (target : L → TargetState) where
     pub restarted : RestartedTimes restarts general times far after
     pub calm : noise events ≡ 0 → turns.bad_receptions events ≡ 0
 
-  -- The answer came: the peer is in step with an initiator that cuts to its own LR code, and these are its own general bytes.
+  -- The answer came: the peer is in step with an initiator that cuts to its own LR code, and these are its own general
+  -- bytes.
   pub record IsActivated (new : Air L) (own : TargetState) (i : InitState) (told : List ℕ) : Type 0 where
     pub lit : new.lit ≡ true
     pub initiator : i ≡ waiting own.lr
@@ -99,26 +105,33 @@ module _ {L : Type 0} (k : Ghosts L) (target : L → TargetState) where
   -- a transmission lost the field
   abbrev pub AtrLost : {F : Type 0} → (F → List ℕ → F → Type 0) → Air L → Air L → List ℕ → F → F → Type 0
   AtrLost restarts old new general far after =
-      (sent : AtrSent restarts old new general far after (Broken faults.FieldLost (atr_frame general ∷ []))) × (0 < breaks sent.events) × (new.lit ≡ false)
+      (sent : AtrSent restarts old new general far after (Broken faults.FieldLost (atr_frame general ∷ [])))
+      × (0 < breaks sent.events) × (new.lit ≡ false)
 
-  -- How the wait ends. The target answers each ATR_REQ that arrives, so six bad receptions have a transmission that didn't pass. No
-  -- answer comes that isn't allowed.
+  -- How the wait ends. The target answers each ATR_REQ that arrives, so six bad receptions have a transmission that
+  -- didn't pass. No answer comes that isn't allowed.
   abbrev pub AtrFails : {F : Type 0} → (F → List ℕ → F → Type 0) → Air L → Air L → List ℕ → F → F → EndCause → Type 0
   AtrFails restarts old new general far after FieldLost =
       ((old.lit ≡ false) × (new ≡ old) × (after ≡ far)) ⊎ AtrLost restarts old new general far after
   AtrFails restarts old new general far after SixBad =
-      (sent : AtrSent restarts old new general far after (Broken faults.SixBad (atr_frame general ∷ []))) × (0 < noise sent.events)
-  AtrFails restarts old new general far after Memory = (bad : ℕ) × AtrSent restarts old new general far after (Asking bad (atr_frame general ∷ []))
+      (sent : AtrSent restarts old new general far after (Broken faults.SixBad (atr_frame general ∷ [])))
+      × (0 < noise sent.events)
+  AtrFails restarts old new general far after Memory = (bad : ℕ)
+      × AtrSent restarts old new general far after (Asking bad (atr_frame general ∷ []))
   AtrFails restarts old new general far after Protocol = ⊥
 
-  abbrev pub AtrEnds : {F : Type 0} → (F → List ℕ → F → Type 0) → Air L → Air L → List ℕ → TargetState → F → F → Result (InitState × ArrayVec ℕ) EndCause → Type 0
+  abbrev pub AtrEnds : {F : Type 0} → (F → List ℕ → F → Type 0) → Air L → Air L → List ℕ → TargetState → F → F
+      → Result (InitState × ArrayVec ℕ) EndCause → Type 0
   AtrEnds restarts old new general own far after (Ok p) =
-      (sent : AtrSent restarts old new general far after (Asking 0 [])) × (0 < sent.times) × IsActivated new own p.0 p.1.items
+      (sent : AtrSent restarts old new general far after (Asking 0 [])) × (0 < sent.times)
+      × IsActivated new own p.0 p.1.items
   AtrEnds restarts old new general own far after (Err cause) = AtrFails restarts old new general far after cause
 
   -- what an initiator does that activates whatever target is alone there
-  abbrev pub Activates : {F : Type 0} → (F → List ℕ → F → Type 0) → Air L → Air L → List ℕ → F → F → Result (InitState × ArrayVec ℕ) EndCause → Type 0
-  Activates restarts old new general far after result = (t : HasTarget old general) → AtrEnds restarts old new general (target t.listener) far after result
+  abbrev pub Activates : {F : Type 0} → (F → List ℕ → F → Type 0) → Air L → Air L → List ℕ → F → F
+      → Result (InitState × ArrayVec ℕ) EndCause → Type 0
+  Activates restarts old new general far after result =
+      (t : HasTarget old general) → AtrEnds restarts old new general (target t.listener) far after result
 
 -- the cause of a result
 abbrev pub by_cause : {X : Type 0} → Result X LinkEnd → Result X EndCause

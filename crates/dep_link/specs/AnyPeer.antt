@@ -1,4 +1,5 @@
--- How an initiator carries a payload with listeners and a far end of any kind, by what it hears (NFCIP-1, ISO/IEC 18092).
+-- How an initiator carries a payload with listeners and a far end of any kind, by what it hears (NFCIP-1, ISO/IEC
+-- 18092).
 use Rattle.std.specs.Prelude.{◌≡◌, ℕ, Bool, false, List, [], length, drop, Option, Some, None, Result, Ok, Err}
 use Rattle.std.specs.Global.{Vec}
 use Rattle.nfc_base.specs.LinkTurns.{arrived}
@@ -20,8 +21,8 @@ use Rattle.dep_link.specs.Exchange.{frames_of}
 use Rattle.dep_link.specs.Asking.{Standing, Waits, Rests, Broken, Astray, asks, stand, dep_next}
 use Rattle.dep_link.specs.DepLinks.{DepSeen, told_end}
 
--- What breaks an exchange off that had more to ask: the field had been dark from the start, or memory was wanting, also that of the
--- far end.
+-- What breaks an exchange off that had more to ask: the field had been dark from the start, or memory was wanting, also
+-- that of the far end.
 abbrev pub BreaksOff : Bool → List Note → Result (ArrayVec ℕ) Unanswered → Type 0
 BreaksOff lit ns (Err (ends.Ended FieldLost)) = (lit ≡ false) × (ns ≡ [])
 BreaksOff lit ns (Err (ends.Ended Memory)) = Unit {0}
@@ -30,8 +31,8 @@ BreaksOff lit ns (Err (ends.Ended SixBad)) = ⊥
 BreaksOff lit ns (Err (ends.Ended Protocol)) = ⊥
 BreaksOff lit ns (Ok reply) = ⊥
 
--- How an exchange ends, by where the initiator stands: by the reply; by a fault, as its table tells it, or as the field is lost. Nothing
--- else ends it but want of memory.
+-- How an exchange ends, by where the initiator stands: by the reply; by a fault, as its table tells it, or as the field
+-- is lost. Nothing else ends it but want of memory.
 abbrev pub TellsPayload : Bool → List Note → Standing → InitState → Result (ArrayVec ℕ) Unanswered → Type 0
 TellsPayload lit ns (Rests i reply) j result = (i ≡ j) × (result ≡ Ok (record { items = reply }))
 TellsPayload lit ns (Waits i f) j result = (i ≡ j) × BreaksOff lit ns result
@@ -61,17 +62,20 @@ abbrev pub over_by : Result (Vec ℕ) LinkEnd → Option EndCause
 over_by (Ok reply) = None
 over_by (Err e) = Some e.cause
 
-module _ {L F : Type 0} (m : Machine L) (restarts : F → List ℕ → F → Type 0) (steps : F → List ℕ → List ℕ → F → Type 0) (stops : F → List ℕ → F → Type 0) (is_stuck : F → Bool) where
-  -- Behind its turns nothing more happened; or the far end stopped for want of memory: a request that was due had passed, and nothing
-  -- came back of it.
+module _ {L F : Type 0} (m : Machine L) (restarts : F → List ℕ → F → Type 0) (steps : F → List ℕ → List ℕ → F → Type 0)
+    (stops : F → List ℕ → F → Type 0) (is_stuck : F → Bool) where
+  -- Behind its turns nothing more happened; or the far end stopped for want of memory: a request that was due had
+  -- passed, and nothing came back of it.
   abbrev pub Leaves : InitState → List ℕ → List Note → Air L → F → Air L → F → Result (ArrayVec ℕ) Unanswered → Type 0
-  Leaves i out ns mid half new after (Err ends.Stopped) = (f : Signal) × (dep_next i out ns ≡ Asks f) × Stops m restarts steps stops is_stuck mid f half new after
+  Leaves i out ns mid half new after (Err ends.Stopped) =
+      (f : Signal) × (dep_next i out ns ≡ Asks f) × Stops m restarts steps stops is_stuck mid f half new after
   Leaves i out ns mid half new after (Err (ends.Ended cause)) = (new ≡ mid) × (after ≡ half)
   Leaves i out ns mid half new after (Ok reply) = (new ≡ mid) × (after ≡ half)
 
-  -- From one field and far end to others: a payload was carried by the initiator's table, each request of it was due, and this is told
-  -- by what was heard. Nothing more was sent.
-  pub record CarriesPayload (old : Air L) (far : F) (new : Air L) (after : F) (i : InitState) (out : List ℕ) (j : InitState) (result : Result (ArrayVec ℕ) Unanswered) : Type 0 where
+  -- From one field and far end to others: a payload was carried by the initiator's table, each request of it was due,
+  -- and this is told by what was heard. Nothing more was sent.
+  pub record CarriesPayload (old : Air L) (far : F) (new : Air L) (after : F) (i : InitState) (out : List ℕ)
+      (j : InitState) (result : Result (ArrayVec ℕ) Unanswered) : Type 0 where
     pub notes : List Note
     pub mid : Air L
     pub half : F
@@ -79,9 +83,10 @@ module _ {L F : Type 0} (m : Machine L) (restarts : F → List ℕ → F → Typ
     pub tells : TellsPayload old.lit notes (stand (asks i out) notes) j result
     pub leaves : Leaves i out notes mid half new after result
 
-  -- From one moment of a link that isn't over to another, with whatever stands in its field, a payload was carried, and this is told: by
-  -- a fault the link is over then.
-  pub record Swaps (a : DepSeen L) (far : F) (b : DepSeen L) (after : F) (out : List ℕ) (result : Result (Vec ℕ) LinkEnd) : Type 0 where
+  -- From one moment of a link that isn't over to another, with whatever stands in its field, a payload was carried, and
+  -- this is told: by a fault the link is over then.
+  pub record Swaps (a : DepSeen L) (far : F) (b : DepSeen L) (after : F) (out : List ℕ)
+      (result : Result (Vec ℕ) LinkEnd) : Type 0 where
     pub ended : Result (ArrayVec ℕ) Unanswered
     pub exchange : CarriesPayload a.air far b.air after a.initiator out b.initiator ended
     pub told : items_of result ≡ told_as ended (has_come a b)
@@ -89,5 +94,7 @@ module _ {L F : Type 0} (m : Machine L) (restarts : F → List ℕ → F → Typ
     pub same : (b.first ≡ a.first) × (b.start ≡ a.start)
 
   -- what an initiator that began with a payload, and this request, does
-  abbrev pub CarriesBegun : Air L → F → Air L → F → InitState → Signal → InitState → Result (ArrayVec ℕ) Unanswered → Type 0
-  CarriesBegun old far new after begun_now sent j result = (i : InitState) (out : List ℕ) → IsBegun i out begun_now sent → CarriesPayload old far new after i out j result
+  abbrev pub CarriesBegun : Air L → F → Air L → F → InitState → Signal → InitState → Result (ArrayVec ℕ) Unanswered
+      → Type 0
+  CarriesBegun old far new after begun_now sent j result =
+      (i : InitState) (out : List ℕ) → IsBegun i out begun_now sent → CarriesPayload old far new after i out j result

@@ -1,5 +1,5 @@
--- How an initiator activates by ATR_REQ with listeners and a far end of any kind, by what it hears (NFCIP-1, ISO/IEC 18092). How
--- often ATR_REQ is sent again is this project's own.
+-- How an initiator activates by ATR_REQ with listeners and a far end of any kind, by what it hears (NFCIP-1, ISO/IEC
+-- 18092). How often ATR_REQ is sent again is this project's own.
 use Rattle.std.specs.Prelude.{ℕ, Bool, List, [], ◌∷◌, Option, Some, None, Result, Ok, Err}
 use Rattle.nfc_base.specs.Signal.{Signal}
 use Rattle.nfc_base.specs.declared.carrier.EndCause.{EndCause}
@@ -16,8 +16,8 @@ use Rattle.dep_link.specs.Frames.{spelled}
 use Rattle.dep_link.specs.Initiator.{InitState, waiting}
 use Rattle.dep_link.specs.Activating.{atr_frame, told_atr}
 
--- What a whole answer to ATR_REQ tells: where it is ATR_RES, an initiator that cuts to the target's LR code, and the target's general
--- bytes; where it isn't, a fault.
+-- What a whole answer to ATR_REQ tells: where it is ATR_RES, an initiator that cuts to the target's LR code, and the
+-- target's general bytes; where it isn't, a fault.
 abbrev pub told_initiator : Option (ℕ × ArrayVec ℕ) → Result (InitState × ArrayVec ℕ) EndCause
 told_initiator None = Err Protocol
 told_initiator (Some p) = Ok (waiting p.0, p.1)
@@ -46,5 +46,6 @@ abbrev pub AsksAtr : {L F : Type 0} → Machine L → (F → List ℕ → F → 
     → (F → List ℕ → F → Type 0) → (F → Bool) → Air L → F → Air L → F → List ℕ
     → Result (InitState × ArrayVec ℕ) EndCause → Type 0
 AsksAtr m restarts steps stops is_stuck old far new after general result =
-    TellsWait m restarts steps (atr_frame general) old far stops is_stuck told_first (λ fault. Err (cause_of fault)) new after
+    TellsWait m restarts steps (atr_frame general) old far stops is_stuck told_first (λ fault. Err (cause_of fault)) new
+    after
     result

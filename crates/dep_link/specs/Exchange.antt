@@ -1,8 +1,9 @@
--- Both ends of NFC-DEP as a link that stops and waits (NFCIP-1, ISO/IEC 18092; NFC Forum Digital Protocol): their tables on the
--- air, how one exchange begins, and in how many frames its payload and its reply are sent.
+-- Both ends of NFC-DEP as a link that stops and waits (NFCIP-1, ISO/IEC 18092; NFC Forum Digital Protocol): their
+-- tables on the air, how one exchange begins, and in how many frames its payload and its reply are sent.
 use Rattle.std.specs.Prelude.{◌≡◌, ℕ, ◌+◌, ◌<◌, ◌≤◌, false, List, [], ◌∷◌, length, Option, Some, None}
 use Rattle.nfc_base.specs.Signal.{Signal}
-use Rattle.nfc_base.specs.StopAndWait.{Does, Quiet, Reply, Deliver, Finished, SixBad, Protocol, Next, Send, Ends, StopAndWait, World, Once, IsReplyTo, run}
+use Rattle.nfc_base.specs.StopAndWait.{Does, Quiet, Reply, Deliver, Finished, SixBad, Protocol, Next, Send, Ends}
+use Rattle.nfc_base.specs.StopAndWait.{StopAndWait, World, Once, IsReplyTo, run}
 use Rattle.nfc_base.specs.Sessions.{opening}
 use Rattle.nfc_base.specs.LinkTurns.{heard_of}
 use Rattle.dep_pdu.specs.declared.frame.DepFrame.{DepFrame}
@@ -18,7 +19,8 @@ use Rattle.dep_link.specs.Target.{TargetState, target_table, replied, reply_fram
 use Rattle.dep_link.specs.Initiator.{InitState, init_table, begun, request}
 use Rattle.dep_link.specs.Payloads.{begins, cut_by, payloads}
 
--- The steps of both ends, in the words of such a link. No exchange has an ATR_REQ: at one a target answers and delivers nothing.
+-- The steps of both ends, in the words of such a link. No exchange has an ATR_REQ: at one a target answers and delivers
+-- nothing.
 abbrev pub target_does : TargetStep → Does Signal
 target_does target.Quiet = Quiet
 target_does (target.Reply f) = Reply f
@@ -59,8 +61,8 @@ nfc_dep first = record {
 abbrev pub Exchange : Type 0
 Exchange = World InitState TargetState Signal
 
--- Between two exchanges both ends are in step: the target expects the initiator's PNI, has no piece of a payload, and no
--- byte and no piece of a reply that isn't sent, and each cuts what it sends into pieces that a frame holds. How much
+-- Between two exchanges both ends are in step: the target expects the initiator's PNI, has no piece of a payload, and
+-- no byte and no piece of a reply that isn't sent, and each cuts what it sends into pieces that a frame holds. How much
 -- more time the target asks for is in its range.
 pub record InStep (i : InitState) (t : TargetState) : Type 0 where
   pub heeds : t.mute ≡ false
@@ -74,9 +76,11 @@ pub record InStep (i : InitState) (t : TargetState) : Type 0 where
   pub busy : t.busy ≤ most_busy
   pub times : (1 ≤ t.times) × (t.times ≤ longest_extension)
 
--- By the frames that arrived since this PNI was expected, the target was handed these payloads, and this much of another one came.
+-- By the frames that arrived since this PNI was expected, the target was handed these payloads, and this much of
+-- another one came.
 abbrev pub IsCut : ℕ → TargetState → List (List ℕ) → List Signal → Type 0
-IsCut first t handed arrived = cut_by (begins first) (frames_of arrived) ≡ record { next = t.expected; chain = t.chain; payloads = handed }
+IsCut first t handed arrived = cut_by (begins first) (frames_of arrived)
+    ≡ record { next = t.expected; chain = t.chain; payloads = handed }
 
 -- the next exchange may begin
 abbrev pub IsReady : ℕ → Exchange → Type 0
@@ -95,15 +99,17 @@ abbrev pub frames_back : TargetState → List ℕ → ℕ
 frames_back t r = t.busy + pieces t.most r
 
 -- The law of an exchange between an initiator with this state and a target with that one, whose far end replies by the
--- function far: at any moment the payload was handed over at most once, as Once says, with at most 2 (k1 + k2 - 1) + 2 K + 4 b
--- transmissions, for K time extensions.
-abbrev pub HandedOnce : (first : ℕ) (far : List ℕ → List ℕ) (i : InitState) (t : TargetState) (handed : List (List ℕ)) (out : List ℕ) → Exchange → Type 0
+-- function far: at any moment the payload was handed over at most once, as Once says, with at most 2 (k1 + k2 - 1) + 2
+-- K + 4 b transmissions, for K time extensions.
+abbrev pub HandedOnce : (first : ℕ) (far : List ℕ → List ℕ) (i : InitState) (t : TargetState) (handed : List (List ℕ))
+    (out : List ℕ) → Exchange → Type 0
 HandedOnce first far i t handed out w =
     Once (nfc_dep first) (IsReady first) (IsReplyTo far out) handed out (pieces i.core.most out) (frames_back t) w
 
 -- Over every list of fates, and whatever the far end replies, an exchange between ends in step keeps that law.
 abbrev pub HandsOnce : Type 0
 HandsOnce =
-    (first : ℕ) (far : List ℕ → List ℕ) (i : InitState) (t : TargetState) (handed : List (List ℕ)) (arrived : List Signal) (out : List ℕ) (fates : List Fate)
+    (first : ℕ) (far : List ℕ → List ℕ) (i : InitState) (t : TargetState) (handed : List (List ℕ))
+    (arrived : List Signal) (out : List ℕ) (fates : List Fate)
     → ((xs : List ℕ) → length (far xs) ≤ limit) → length out ≤ limit → InStep i t → IsCut first t handed arrived
     → HandedOnce first far i t handed out (run (nfc_dep first) far (beginning i t handed arrived out) fates)

@@ -1,5 +1,6 @@
 -- Frames of NFC-DEP on the air, and pieces of payloads (NFCIP-1, ISO/IEC 18092; NFC Forum Digital Protocol).
-use Rattle.std.specs.Prelude.{◌≡◌, ℕ, ◌+◌, ◌%◌, ◌≤◌, nat_lt, List, length, take, Bool, true, false, if◌then◌else◌, Option, Some, None}
+use Rattle.std.specs.Prelude.{◌≡◌, ℕ, ◌+◌, ◌%◌, ◌≤◌, nat_lt, List, length, take, Bool, true, false, if◌then◌else◌}
+use Rattle.std.specs.Prelude.{Option, Some, None}
 use Rattle.nfc_base.specs.Signal.{Signal, whole_a, is_whole_a}
 use Rattle.dep_pdu.specs.declared.frame.DepFrame.{DepFrame}
 use Rattle.dep_pdu.specs.declared.frame.DepFrame.TheVariants.{AtrReq, Info}

@@ -1,24 +1,27 @@
 -- The initiator's end of NFC-DEP (NFCIP-1, ISO/IEC 18092; NFC Forum Digital Protocol): what it sends next, or how the
--- exchange ends, by what it sent last and what it heard. The six receptions, the 16 time extensions, the 2,178 bytes, and
--- attention after a damaged answer to an attention are this project's own.
-use Rattle.std.specs.Prelude.{◌≡◌, ℕ, ◌+◌, ◌<◌, ◌≤◌, ◌==◌, nat_lt, Bool, true, false, List, [], ◌++◌, length, drop, Option, Some, None, if◌then◌else◌, IfSome}
+-- exchange ends, by what it sent last and what it heard. The six receptions, the 16 time extensions, the 2,178 bytes,
+-- and attention after a damaged answer to an attention are this project's own.
+use Rattle.std.specs.Prelude.{◌≡◌, ℕ, ◌+◌, ◌<◌, ◌≤◌, ◌==◌, nat_lt, Bool, true, false, List, [], ◌++◌, length, drop}
+use Rattle.std.specs.Prelude.{Option, Some, None, if◌then◌else◌, IfSome}
 use Rattle.nfc_base.specs.Signal.{Signal}
 use Rattle.nfc_base.specs.declared.event.Heard.{Heard}
 use Rattle.nfc_base.specs.declared.event.Heard.TheVariants.{Whole, Collided, Damaged, Silent}
 use Rattle.dep_pdu.specs.declared.frame.DepFrame.{DepFrame}
 use Rattle.dep_pdu.specs.declared.frame.DepFrame.TheVariants.{Info, Ack, Nack, Attention, Extend}
 use Rattle.dep_link.specs.declared.initiator.Phase.{Phase}
-use Rattle.dep_link.specs.declared.initiator.Phase.TheVariants.{Asked, Nacked, Attending, Free, EndedSixBad, EndedProtocol}
+use Rattle.dep_link.specs.declared.initiator.Phase.TheVariants.{Asked, Nacked, Attending, Free, EndedSixBad}
+use Rattle.dep_link.specs.declared.initiator.Phase.TheVariants.{EndedProtocol}
 use Rattle.dep_link.specs.declared.initiator.InitKind.{InitKind}
 use Rattle.dep_link.specs.declared.initiator.InitKind.TheVariants as kinds
 use Rattle.dep_link.specs.declared.initiator.InitStep.{InitStep}
 use Rattle.dep_link.specs.declared.initiator.InitStep.TheVariants as steps
-use Rattle.nfc_base.specs.Pieces.{Core, most_bads, most_extensions, longest_extension, quiet_core, begun_core, turned, more_follows, is_refused, may_extend}
+use Rattle.nfc_base.specs.Pieces.{Core, most_bads, most_extensions, longest_extension, quiet_core, begun_core, turned}
+use Rattle.nfc_base.specs.Pieces.{more_follows, is_refused, may_extend}
 use Rattle.dep_link.specs.Sizes.{piece_size, limit}
 use Rattle.dep_link.specs.Frames.{air_frame, spelled, IsSpelled, after, piece}
 
--- An initiator: that, what it sent last or how its exchange ended, the bad receptions of this wait, and the payload with
--- which it began last.
+-- An initiator: that, what it sent last or how its exchange ended, the bad receptions of this wait, and the payload
+-- with which it began last.
 pub record InitState : Type 0 where
   pub core : Core
   pub phase : Phase
@@ -200,5 +203,7 @@ IsSent steps.Protocol = Unit {0}
 abbrev pub FaultsStay : Type 0
 FaultsStay =
     (i : InitState) (h later : Heard)
-    → ((init_table i h).does ≡ steps.SixBad → init_table (init_table i h).state later ≡ record { state = (init_table i h).state; does = steps.SixBad })
-    × ((init_table i h).does ≡ steps.Protocol → init_table (init_table i h).state later ≡ record { state = (init_table i h).state; does = steps.Protocol })
+    → ((init_table i h).does ≡ steps.SixBad → init_table (init_table i h).state later
+    ≡ record { state = (init_table i h).state; does = steps.SixBad })
+    × ((init_table i h).does ≡ steps.Protocol → init_table (init_table i h).state later
+    ≡ record { state = (init_table i h).state; does = steps.Protocol })

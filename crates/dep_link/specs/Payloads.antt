@@ -1,5 +1,5 @@
--- The payloads that frames bring to a target (NFCIP-1, ISO/IEC 18092): of the information and ACK frames that arrived, those with the
--- next PNI are taken, and the contents of the taken information frames are joined over MI.
+-- The payloads that frames bring to a target (NFCIP-1, ISO/IEC 18092): of the information and ACK frames that arrived,
+-- those with the next PNI are taken, and the contents of the taken information frames are joined over MI.
 use Rattle.std.specs.Prelude.{ℕ, ◌==◌, Bool, true, false, List, [], ◌∷◌, ◌++◌, if◌then◌else◌}
 use Rattle.dep_pdu.specs.declared.frame.DepFrame.{DepFrame}
 use Rattle.dep_pdu.specs.declared.frame.DepFrame.TheVariants.{Info, Ack}

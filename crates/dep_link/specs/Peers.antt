@@ -1,5 +1,5 @@
--- Peers in a field (NFC Forum Digital Protocol): a listener that does at the initiator's frames what the target's table says, under
--- a far end. Who hears what is this project's own.
+-- Peers in a field (NFC Forum Digital Protocol): a listener that does at the initiator's frames what the target's table
+-- says, under a far end. Who hears what is this project's own.
 use Rattle.std.specs.Prelude.{◌≡◌, ℕ, ◌<◌, ◌≤◌, List, [], ◌∷◌, length, slice_index, true, false, Option, Some, None}
 use Rattle.std.specs.List.{AllByRecursion}
 use Rattle.nfc_base.specs.declared.frame.Tech.TheVariants.{A}
@@ -79,13 +79,17 @@ module _ {L : Type 0} (k : Ghosts L) (target : L → TargetState) where
   -- At a frame, with that reply, a listener does what the target's table says, and stays selected.
   pub record StepsByTarget (l : L) (f : Signal) (r : List ℕ) : Type 0 where
     pub asks : k.machine.handed l f ≡ target_use (target_table (target l) f).does
-    pub answer : k.machine.answer l f (reply_for r (k.machine.handed l f)) ≡ answered_with (target_table (target l) f).state r (target_table (target l) f).does
-    pub target_is : target (heard_with k l f r) ≡ left_with (target_table (target l) f).state r (target_table (target l) f).does
+    pub answer : k.machine.answer l f (reply_for r (k.machine.handed l f))
+        ≡ answered_with (target_table (target l) f).state r (target_table (target l) f).does
+    pub target_is : target (heard_with k l f r) ≡ left_with (target_table (target l) f).state r
+        (target_table (target l) f).does
     pub selected : k.is_selected (heard_with k l f r) ≡ true
 
-  -- A selected listener is a peer: by the initiator's frames, whatever the far end replies, it only comes to where it does so again; and
-  -- the dark clears its target's end.
+  -- A selected listener is a peer: by the initiator's frames, whatever the far end replies, it only comes to where it
+  -- does so again; and the dark clears its target's end.
   pub record IsPeer (l : L) : Type 0 where
     pub tech : k.machine.tech l ≡ A
-    pub steps_on : (hs : List Hearing) → AllByRecursion IsHearing hs → (f : Signal) → IsAsked f → (r : List ℕ) → IsShort r → StepsByTarget (reached k l hs) f r
-    pub cleared : (hs : List Hearing) → AllByRecursion IsHearing hs → target (k.machine.darkened (reached k l hs)) ≡ darkened (target (reached k l hs))
+    pub steps_on : (hs : List Hearing) → AllByRecursion IsHearing hs → (f : Signal) → IsAsked f → (r : List ℕ)
+        → IsShort r → StepsByTarget (reached k l hs) f r
+    pub cleared : (hs : List Hearing) → AllByRecursion IsHearing hs
+        → target (k.machine.darkened (reached k l hs)) ≡ darkened (target (reached k l hs))

@@ -19,11 +19,14 @@ use Rattle.dep_link.specs.Peers.{target_use}
 abbrev pub rls_frame : Signal
 rls_frame = air_frame RlsReq
 
-module _ {L F : Type 0} (m : Machine L) (restarts : F → List ℕ → F → Type 0) (steps : F → List ℕ → List ℕ → F → Type 0) (stops : F → List ℕ → F → Type 0) (is_stuck : F → Bool) where
+module _ {L F : Type 0} (m : Machine L) (restarts : F → List ℕ → F → Type 0) (steps : F → List ℕ → List ℕ → F → Type 0)
+    (stops : F → List ℕ → F → Type 0) (is_stuck : F → Bool) where
   -- a fault is that of the one turn
   abbrev pub ReleaseFails : Air L → F → Air L → F → EndCause → Type 0
-  ReleaseFails old far new far' FieldLost = Transmits m restarts steps stops is_stuck old rls_frame far (Err air.FieldLost) new far'
-  ReleaseFails old far new far' Memory = Transmits m restarts steps stops is_stuck old rls_frame far (Err air.Memory) new far'
+  ReleaseFails old far new far' FieldLost = Transmits m restarts steps stops is_stuck old rls_frame far
+      (Err air.FieldLost) new far'
+  ReleaseFails old far new far' Memory = Transmits m restarts steps stops is_stuck old rls_frame far (Err air.Memory)
+      new far'
   ReleaseFails old far new far' SixBad = ⊥
   ReleaseFails old far new far' Protocol = ⊥
 

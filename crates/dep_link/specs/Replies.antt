@@ -1,5 +1,5 @@
--- The replies that frames bring to an initiator (NFCIP-1, ISO/IEC 18092), counted as payloads are at a target; and what an
--- initiator has heard and given in exchanges one after another.
+-- The replies that frames bring to an initiator (NFCIP-1, ISO/IEC 18092), counted as payloads are at a target; and what
+-- an initiator has heard and given in exchanges one after another.
 use Rattle.std.specs.Prelude.{◌≡◌, ℕ, ◌==◌, Bool, true, false, List, [], ◌∷◌, ◌++◌, if◌then◌else◌}
 use Rattle.nfc_base.specs.Signal.{Signal}
 use Rattle.nfc_base.specs.declared.event.Heard.{Heard}
@@ -7,7 +7,8 @@ use Rattle.nfc_base.specs.declared.event.Heard.TheVariants.{Whole, Collided, Dam
 use Rattle.dep_pdu.specs.declared.frame.DepFrame.{DepFrame}
 use Rattle.dep_pdu.specs.declared.frame.DepFrame.TheVariants.{Info, Ack}
 use Rattle.dep_link.specs.declared.initiator.Phase.{Phase}
-use Rattle.dep_link.specs.declared.initiator.Phase.TheVariants.{Asked, Nacked, Attending, Free, EndedSixBad, EndedProtocol}
+use Rattle.dep_link.specs.declared.initiator.Phase.TheVariants.{Asked, Nacked, Attending, Free, EndedSixBad}
+use Rattle.dep_link.specs.declared.initiator.Phase.TheVariants.{EndedProtocol}
 use Rattle.dep_link.specs.declared.initiator.InitStep.{InitStep}
 use Rattle.dep_link.specs.declared.initiator.InitStep.TheVariants as steps
 use Rattle.dep_link.specs.Frames.{after}
@@ -90,7 +91,9 @@ IsTalk w (q ∷ p ∷ qs) = ((talks w q).initiator.phase ≡ Free) × IsTalk (ta
 abbrev pub quiet_talk : ℕ → Talk
 quiet_talk code = record { initiator = waiting code; heard = []; replies = [] }
 
--- By the frames that an initiator has heard, these are the replies that it has given: each frame that it allowed is taken once.
+-- By the frames that an initiator has heard, these are the replies that it has given: each frame that it allowed is
+-- taken once.
 abbrev pub HeardReplies : Type 0
 HeardReplies = (code : ℕ) (qs : List Talked) → IsTalk (quiet_talk code) qs
-    → (cut_up (begins 0) (frames_of (talks_all (quiet_talk code) qs).heard)).payloads ≡ (talks_all (quiet_talk code) qs).replies
+    → (cut_up (begins 0) (frames_of (talks_all (quiet_talk code) qs).heard)).payloads
+    ≡ (talks_all (quiet_talk code) qs).replies

@@ -11,4 +11,5 @@ abbrev pub HeardUpTo : {L : Type 0} → Machine L → Signal → List ℕ → Li
 HeardUpTo m f payload [] ms = ⊥
 HeardUpTo {L} m f payload (l ∷ ls) ms =
     (later : List L) × (ms ≡ stepped_by m l f None ∷ later)
-    × (((hands_over m l f ≡ Hands payload) × (later ≡ ls)) ⊎ ((hands_over m l f ≡ Untouched) × HeardUpTo m f payload ls later))
+    × (((hands_over m l f ≡ Hands payload) × (later ≡ ls))
+    ⊎ ((hands_over m l f ≡ Untouched) × HeardUpTo m f payload ls later))

@@ -1,11 +1,13 @@
--- The target's end of NFC-DEP (NFCIP-1, ISO/IEC 18092; NFC Forum Digital Protocol): what it does at each frame. Its silence
--- after a chain above 2,178 bytes, how often and by which value it asks for more time, and the code of its waiting time are
--- this project's own.
-use Rattle.std.specs.Prelude.{ℕ, ◌≡◌, ◌-◌, ◌<◌, ◌≤◌, ◌==◌, nat_lt, Bool, true, false, List, [], ◌++◌, length, drop, Option, Some, None, if◌then◌else◌, IfSome}
+-- The target's end of NFC-DEP (NFCIP-1, ISO/IEC 18092; NFC Forum Digital Protocol): what it does at each frame. Its
+-- silence after a chain above 2,178 bytes, how often and by which value it asks for more time, and the code of its
+-- waiting time are this project's own.
+use Rattle.std.specs.Prelude.{ℕ, ◌≡◌, ◌-◌, ◌<◌, ◌≤◌, ◌==◌, nat_lt, Bool, true, false, List, [], ◌++◌, length, drop}
+use Rattle.std.specs.Prelude.{Option, Some, None, if◌then◌else◌, IfSome}
 use Rattle.arrayvec.specs.ArrayVec.{ArrayVec}
 use Rattle.nfc_base.specs.Signal.{Signal}
 use Rattle.dep_pdu.specs.declared.frame.DepFrame.{DepFrame}
-use Rattle.dep_pdu.specs.declared.frame.DepFrame.TheVariants.{AtrReq, AtrRes, Info, Ack, Nack, Attention, Extend, DslReq, DslRes, RlsReq, RlsRes}
+use Rattle.dep_pdu.specs.declared.frame.DepFrame.TheVariants.{AtrReq, AtrRes, Info, Ack, Nack, Attention, Extend}
+use Rattle.dep_pdu.specs.declared.frame.DepFrame.TheVariants.{DslReq, DslRes, RlsReq, RlsRes}
 use Rattle.dep_pdu.specs.Spelling.{IsDepFrame}
 use Rattle.dep_link.specs.declared.target.TargetKind.{TargetKind}
 use Rattle.dep_link.specs.declared.target.TargetKind.TheVariants as kinds
@@ -15,10 +17,10 @@ use Rattle.dep_link.specs.Sizes.{piece_size, initiator_lr, limit}
 use Rattle.dep_link.specs.Frames.{air_frame, spelled, IsSpelled, after, before, piece}
 
 -- A target: what it says of itself in ATR_RES; the most content of a frame that the initiator takes; the PNI that it
--- expects; the last answer that is sent again, which those to attention and ATR_REQ aren't; the chain so far; the bytes of
--- its reply that aren't sent, and whether a piece of it isn't, which an empty reply has too; and whether a chain grew too
--- long. How often it asks for more time before each reply, by which value, how often that is still due, and whether its
--- last answer is a first piece that followed an extension.
+-- expects; the last answer that is sent again, which those to attention and ATR_REQ aren't; the chain so far; the bytes
+-- of its reply that aren't sent, and whether a piece of it isn't, which an empty reply has too; and whether a chain
+-- grew too long. How often it asks for more time before each reply, by which value, how often that is still due, and
+-- whether its last answer is a first piece that followed an extension.
 pub record TargetState : Type 0 where
   pub id : List ℕ
   pub lr : ℕ
@@ -36,7 +38,8 @@ pub record TargetState : Type 0 where
   pub followed : Bool
 
 -- What a target keeps: its parts are in the ranges of the frames that it sends.
-pub record IsTarget (id : List ℕ) (lr most expected : ℕ) (last : Option DepFrame) (at : ℕ) (reply : List ℕ) (busy times : ℕ) : Type 0 where
+pub record IsTarget (id : List ℕ) (lr most expected : ℕ) (last : Option DepFrame) (at : ℕ) (reply : List ℕ)
+    (busy times : ℕ) : Type 0 where
   pub named : length id ≡ 10
   pub code : lr < 4
   pub some : 0 < most
@@ -79,16 +82,25 @@ again t (Some a) = record { state = t; does = Answers a }
 abbrev pub repeated : TargetState → ℕ → TargetMove
 repeated t pni = if after pni == t.expected then again t t.last else stays t
 
--- Information was taken, with which the chain is xs: ACK where it goes on, else the payload is delivered. No more time is
--- due from before.
+-- Information was taken, with which the chain is xs: ACK where it goes on, else the payload is delivered. No more time
+-- is due from before.
 abbrev pub grown : TargetState → Bool → ℕ → List ℕ → TargetMove
 grown t true pni xs =
     record {
-      state = record t { expected = after t.expected; last = Some (Ack true pni); chain = xs; due = 0; followed = false };
+      state = record t {
+        expected = after t.expected;
+        last = Some (Ack true pni);
+        chain = xs;
+        due = 0;
+        followed = false;
+      };
       does = Answers (Ack true pni);
     }
 grown t false pni xs =
-    record { state = record t { expected = after t.expected; last = None; chain = []; due = 0; followed = false }; does = Delivers xs }
+    record {
+      state = record t { expected = after t.expected; last = None; chain = []; due = 0; followed = false };
+      does = Delivers xs;
+    }
 
 -- information, with which the chain is xs
 abbrev pub gathered : TargetState → Bool → ℕ → List ℕ → TargetMove
@@ -138,7 +150,8 @@ extended t times =
 
 -- the table of a target that isn't mute
 abbrev pub frame_table : TargetState → DepFrame → TargetMove
-frame_table t (Info false more pni content) = if pni == t.expected then gathered t more pni (t.chain ++ content.items) else repeated t pni
+frame_table t (Info false more pni content) = if pni == t.expected then gathered t more pni (t.chain ++ content.items)
+    else repeated t pni
 frame_table t (Ack false pni) = if pni == t.expected then drawn t pni else repeated t pni
 frame_table t (Nack pni) = repeated t pni
 frame_table t (Attention false) = record { state = t; does = Answers (Attention true) }
@@ -174,7 +187,17 @@ fresh id lr general =
 -- A link begins, of an initiator with this LR code. How much more time the target asks for stays.
 abbrev pub restarted : TargetState → ℕ → TargetState
 restarted t code =
-    record t { most = piece_size code; expected = 0; last = None; chain = []; left = []; unsent = false; mute = false; due = 0; followed = false }
+    record t {
+      most = piece_size code;
+      expected = 0;
+      last = None;
+      chain = [];
+      left = [];
+      unsent = false;
+      mute = false;
+      due = 0;
+      followed = false;
+    }
 
 abbrev pub atr_res : TargetState → DepFrame
 atr_res t = AtrRes t.id waiting_code t.lr (record { items = t.general })
@@ -206,13 +229,19 @@ obeyed t (Some v) = framed (heeded t v)
 abbrev pub target_table : TargetState → Signal → TargetTurn
 target_table t f = obeyed t (spelled f)
 
--- The target once its owner replied to what was delivered: it asks for more time first, where it does so, else sends the
--- first piece.
+-- The target once its owner replied to what was delivered: it asks for more time first, where it does so, else sends
+-- the first piece.
 abbrev pub replied : TargetState → List ℕ → TargetState
 replied t r =
     if nat_lt 0 t.busy
     then record t { last = Some (Extend true t.times); left = r; unsent = true; due = t.busy; followed = false }
-    else record t { last = Some (first_piece t r); left = drop t.most r; unsent = nat_lt t.most (length r); due = 0; followed = false }
+    else record t {
+      last = Some (first_piece t r);
+      left = drop t.most r;
+      unsent = nat_lt t.most (length r);
+      due = 0;
+      followed = false;
+    }
 
 abbrev pub reply_frame : TargetState → List ℕ → DepFrame
 reply_frame t r = if nat_lt 0 t.busy then Extend true t.times else first_piece t r
@@ -243,14 +272,16 @@ IsSaid (steps.Deliver payload) = Unit {0}
 IsSaid (steps.Asleep f) = IsSpelled f
 IsSaid (steps.Released f) = IsSpelled f
 
--- A payload that a target delivers at a frame: the frame is the information with the PNI that is expected that ends its chain, and the
--- next PNI is expected then.
+-- A payload that a target delivers at a frame: the frame is the information with the PNI that is expected that ends its
+-- chain, and the next PNI is expected then.
 pub record IsNew (t : TargetState) (f : Signal) (xs : List ℕ) : Type 0 where
   pub content : ArrayVec ℕ
   pub brings : spelled f ≡ Some (Info false false t.expected content)
   pub ends : xs ≡ t.chain ++ content.items
   pub moves : (target_table t f).state.expected ≡ after t.expected
 
--- What a target delivers is new each time: nothing that asks for an answer again delivers, and no frame with another PNI does.
+-- What a target delivers is new each time: nothing that asks for an answer again delivers, and no frame with another
+-- PNI does.
 abbrev pub DeliversAnew : Type 0
-DeliversAnew = (t : TargetState) (f : Signal) (xs : List ℕ) → (target_table t f).does ≡ steps.Deliver (record { items = xs }) → IsNew t f xs
+DeliversAnew = (t : TargetState) (f : Signal) (xs : List ℕ)
+    → (target_table t f).does ≡ steps.Deliver (record { items = xs }) → IsNew t f xs

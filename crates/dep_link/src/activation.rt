@@ -73,8 +73,9 @@ fn ask_atr<L: PeerListener, A: Answerer>(
     }
 }
 
-/// Activates the target that is selected in a field, with general bytes of at most 48, and gives an initiator for it and its general
-/// bytes. Whatever stands there, `turns` says what is sent and told by what was heard; `ends` says more of a target that is alone.
+/// Activates the target that is selected in a field, with general bytes of at most 48, and gives an initiator for it
+/// and its general bytes. Whatever stands there, `turns` says what is sent and told by what was heard; `ends` says more
+/// of a target that is alone.
 pub fn activate<L: PeerListener, A: Answerer>(
     field: &mut Field<L>,
     general: &[u8],

@@ -62,8 +62,8 @@ pub(crate) fn spelled(frame: &Frame) -> Option<DepFrame>
     }
 }
 
-/// Whether a frame is a well-formed ATR_REQ, which activates a target (NFCIP-1, ISO/IEC 18092). Whoever holds a `Target`
-/// hands it all frames from there on.
+/// Whether a frame is a well-formed ATR_REQ, which activates a target (NFCIP-1, ISO/IEC 18092). Whoever holds a
+/// `Target` hands it all frames from there on.
 pub fn is_atr_req(frame: &Frame) -> bool
     ensures { result ≡ is_atr_req frame.now }
 {

@@ -5,7 +5,9 @@ ghost use Rattle.dep_pdu.specs.Spelling.{IsDepFrame};
 ghost use Rattle.dep_link.specs.Frames.{air_frame, spelled, IsSpelled};
 ghost use Rattle.dep_link.specs.DepLinks.{over_at};
 ghost use Rattle.nfc_base.specs.Pieces.{more_follows, may_extend};
-ghost use Rattle.dep_link.specs.Initiator.{InitTurn, init_table, framed, sends, refuses, bad, acked, brought, answered, attended, waited, attending, request, extended, begun, waiting, IsSent, init_step_at};
+ghost use Rattle.dep_link.specs.Initiator.{InitTurn, init_table, framed, sends, refuses, bad, acked, brought, answered};
+ghost use Rattle.dep_link.specs.Initiator.{attended, waited, attending, request, extended, begun, waiting, IsSent};
+ghost use Rattle.dep_link.specs.Initiator.{init_step_at};
 
 use crate::frames::{after, air_frame, piece, piece_size, put_frame, spelled};
 use arrayvec::ArrayVec;
@@ -53,8 +55,8 @@ pub(crate) enum Phase {
     EndedProtocol,
 }
 
-/// The initiator's end (NFCIP-1, ISO/IEC 18092; NFC Forum Digital Protocol): one payload after the other, in pieces, and
-/// the reply put together. It takes no memory.
+/// The initiator's end (NFCIP-1, ISO/IEC 18092; NFC Forum Digital Protocol): one payload after the other, in pieces,
+/// and the reply put together. It takes no memory.
 #[derive(Debug, Drop)]
 pub struct Initiator {
     number: u8,
@@ -268,7 +270,8 @@ impl Initiator {
 
     /// A whole frame behind a request or a NACK.
     fn whole(&mut self, frame: &Frame, sent: &mut Frame) -> InitKind
-        ensures step { record { state = self.new; does = init_step_at result sent.new } ≡ framed (waited self.old (spelled frame.now)) }
+        ensures step { record { state = self.new; does = init_step_at result sent.new }
+            ≡ framed (waited self.old (spelled frame.now)) }
         ensures spelled { IsSent (init_step_at result sent.new) }
     {
         match spelled(frame) {
@@ -279,7 +282,8 @@ impl Initiator {
 
     /// A whole frame behind an attention.
     fn attend(&mut self, frame: &Frame, sent: &mut Frame) -> InitKind
-        ensures step { record { state = self.new; does = init_step_at result sent.new } ≡ framed (attending self.old (spelled frame.now)) }
+        ensures step { record { state = self.new; does = init_step_at result sent.new }
+            ≡ framed (attending self.old (spelled frame.now)) }
         ensures spelled { IsSent (init_step_at result sent.new) }
     {
         match spelled(frame) {
@@ -289,7 +293,8 @@ impl Initiator {
     }
 
     fn answered(&mut self, value: &DepFrame, sent: &mut Frame) -> InitKind
-        ensures step { record { state = self.new; does = init_step_at result sent.new } ≡ framed (answered self.old value.now) }
+        ensures step { record { state = self.new; does = init_step_at result sent.new }
+            ≡ framed (answered self.old value.now) }
         ensures spelled { IsSent (init_step_at result sent.new) }
     {
         match value {
@@ -334,7 +339,8 @@ impl Initiator {
 
     /// A piece of the reply.
     fn take(&mut self, more: bool, content: &[u8], sent: &mut Frame) -> InitKind
-        ensures step { record { state = self.new; does = init_step_at result sent.new } ≡ framed (brought self.old more content.now) }
+        ensures step { record { state = self.new; does = init_step_at result sent.new }
+            ≡ framed (brought self.old more content.now) }
         ensures spelled { IsSent (init_step_at result sent.new) }
     {
         if more && content.is_empty() {
@@ -364,7 +370,8 @@ impl Initiator {
 
     /// The target asks for more time.
     fn extend(&mut self, times: u8, sent: &mut Frame) -> InitKind
-        ensures step { record { state = self.new; does = init_step_at result sent.new } ≡ framed (extended self.old times) }
+        ensures step { record { state = self.new; does = init_step_at result sent.new }
+            ≡ framed (extended self.old times) }
         ensures spelled { IsSent (init_step_at result sent.new) }
     {
         if !self.may_extend(times) {

@@ -20,7 +20,8 @@ pub fn handed_once()
     ensures activated { ActivatedHands }
 {}
 
-/// What an initiator gives are the replies that the frames bring which it hears: each frame that it allows is taken once.
+/// What an initiator gives are the replies that the frames bring which it hears: each frame that it allows is taken
+/// once.
 pub fn replies_heard()
     ensures { HeardReplies }
 {}

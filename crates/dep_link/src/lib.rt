@@ -1,10 +1,10 @@
-//! NFC-DEP (NFCIP-1, ISO/IEC 18092; NFC Forum Digital Protocol), both ends: an initiator's payload and the reply of the far
-//! end above a target, each in frames that stop and wait.
+//! NFC-DEP (NFCIP-1, ISO/IEC 18092; NFC Forum Digital Protocol), both ends: an initiator's payload and the reply of the
+//! far end above a target, each in frames that stop and wait.
 //!
-//! `frames` carries frames of NFC-DEP on the air and cuts pieces, `target` and `initiator` are the ends, one step of their
-//! tables a call; none of these takes memory. `listener` says what a peer is in a field, `activation` and `exchange` are the
-//! initiator's turns with one, and `pair` is the link to it, with `brought` for what a trace brought. `law` has what both
-//! tables keep together.
+//! `frames` carries frames of NFC-DEP on the air and cuts pieces, `target` and `initiator` are the ends, one step of
+//! their tables a call; none of these takes memory. `listener` says what a peer is in a field, `activation` and
+//! `exchange` are the initiator's turns with one, and `pair` is the link to it, with `brought` for what a trace
+//! brought. `law` has what both tables keep together.
 #![tactic(auto)]
 
 mod activation;

@@ -22,8 +22,8 @@ use std::alloc::Global;
 /// The most bytes of a payload (this project's own).
 const LIMIT: usize = 2178;
 
-/// A link to the one peer that is selected and alone in a field, which was activated. Each payload is an exchange of NFC-DEP,
-/// in which it is handed to the far end at most once.
+/// A link to the one peer that is selected and alone in a field, which was activated. Each payload is an exchange of
+/// NFC-DEP, in which it is handed to the far end at most once.
 #[derive(Drop)]
 pub struct DepPair<'a, L> {
     field: &'a mut Field<L>,
@@ -117,7 +117,8 @@ impl<'a, L: PeerListener> DepPair<'a, L> {
         }
     }
 
-    /// The link is over as an exchange ended, whose events begin at that place of the trace and whose first PNI was this one.
+    /// The link is over as an exchange ended, whose events begin at that place of the trace and whose first PNI was
+    /// this one.
     fn end_by(&mut self, why: Unanswered, start: usize, number: u8) -> LinkEnd
         requires place { start ≤ length self.old.field.now.trace }
         requires number { number < 4 }

@@ -3,7 +3,9 @@
 ghost use Rattle.std.specs.Prelude.{◌≡◌, ◌≤◌, ◌<◌, ◌++◌, length, drop, nat_lt, true};
 ghost use Rattle.dep_pdu.specs.Spelling.{IsDepFrame};
 ghost use Rattle.dep_link.specs.Frames.{air_frame, IsSpelled};
-ghost use Rattle.dep_link.specs.Target.{TargetTurn, target_table, framed, heeded, frame_table, again, repeated, gathered, drawn, extended, granted, first_piece, opened, replied, reply_frame, fresh, restarted, darkened, made_busy, atr_res, IsSaid, target_step_at};
+ghost use Rattle.dep_link.specs.Target.{TargetTurn, target_table, framed, heeded, frame_table, again, repeated};
+ghost use Rattle.dep_link.specs.Target.{gathered, drawn, extended, granted, first_piece, opened, replied, reply_frame};
+ghost use Rattle.dep_link.specs.Target.{fresh, restarted, darkened, made_busy, atr_res, IsSaid, target_step_at};
 
 use crate::frames::{INITIATOR_LR, after, piece, piece_size, put_frame, spelled};
 use arrayvec::ArrayVec;
@@ -43,8 +45,8 @@ pub enum TargetKind {
     Released,
 }
 
-/// The target's end (NFCIP-1, ISO/IEC 18092; NFC Forum Digital Protocol): it puts payloads together and hands out replies
-/// in pieces. It takes no memory. Its owner calls `dark` when the device leaves the field, sleeps or is let go.
+/// The target's end (NFCIP-1, ISO/IEC 18092; NFC Forum Digital Protocol): it puts payloads together and hands out
+/// replies in pieces. It takes no memory. Its owner calls `dark` when the device leaves the field, sleeps or is let go.
 #[derive(Debug, Drop)]
 pub struct Target {
     id: [u8; 10],
@@ -241,7 +243,8 @@ impl Target {
     }
 
     fn heed(&mut self, value: &DepFrame, answer: &mut Frame) -> TargetKind
-        ensures step { record { state = self.new; does = target_step_at result answer.new } ≡ framed (heeded self.old value.now) }
+        ensures step { record { state = self.new; does = target_step_at result answer.new }
+            ≡ framed (heeded self.old value.now) }
         ensures spelled { IsSaid (target_step_at result answer.new) }
     {
         if let DepFrame::AtrReq { lr, general, .. } = value {
@@ -256,7 +259,8 @@ impl Target {
     /// ATR_REQ.
     fn open(&mut self, code: u8, general: &[u8], answer: &mut Frame) -> TargetKind
         requires { length general.now ≤ 48 }
-        ensures step { record { state = self.new; does = target_step_at result answer.new } ≡ framed (opened self.old code general.now) }
+        ensures step { record { state = self.new; does = target_step_at result answer.new }
+            ≡ framed (opened self.old code general.now) }
         ensures spelled { IsSaid (target_step_at result answer.new) }
     {
         self.restart(code);
@@ -281,7 +285,8 @@ impl Target {
     }
 
     fn obey(&mut self, value: &DepFrame, answer: &mut Frame) -> TargetKind
-        ensures step { record { state = self.new; does = target_step_at result answer.new } ≡ framed (frame_table self.old value.now) }
+        ensures step { record { state = self.new; does = target_step_at result answer.new }
+            ≡ framed (frame_table self.old value.now) }
         ensures spelled { IsSaid (target_step_at result answer.new) }
     {
         match value {
@@ -324,7 +329,8 @@ impl Target {
 
     /// The last answer again, where the request is the last one.
     fn repeat(&self, pni: u8, answer: &mut Frame) -> TargetKind
-        ensures step { record { state = self.now; does = target_step_at result answer.new } ≡ framed (repeated self.now pni) }
+        ensures step { record { state = self.now; does = target_step_at result answer.new }
+            ≡ framed (repeated self.now pni) }
         ensures spelled { IsSaid (target_step_at result answer.new) }
     {
         if (pni as u16 + 1) % 4 != self.expected as u16 {
@@ -334,7 +340,8 @@ impl Target {
     }
 
     fn repeat_last(&self, answer: &mut Frame) -> TargetKind
-        ensures step { record { state = self.now; does = target_step_at result answer.new } ≡ framed (again self.now self.now.last) }
+        ensures step { record { state = self.now; does = target_step_at result answer.new }
+            ≡ framed (again self.now self.now.last) }
         ensures spelled { IsSaid (target_step_at result answer.new) }
     {
         match &self.last {
@@ -374,7 +381,8 @@ impl Target {
     /// The next piece of the reply.
     fn draw(&mut self, pni: u8, answer: &mut Frame) -> TargetKind
         requires { pni < 4 }
-        ensures step { record { state = self.new; does = target_step_at result answer.new } ≡ framed (drawn self.old pni) }
+        ensures step { record { state = self.new; does = target_step_at result answer.new }
+            ≡ framed (drawn self.old pni) }
         ensures spelled { IsSaid (target_step_at result answer.new) }
     {
         let left = &self.reply.as_slice()[self.at..];
@@ -393,7 +401,8 @@ impl Target {
 
     /// A time extension by this value.
     fn extend(&mut self, times: u8, answer: &mut Frame) -> TargetKind
-        ensures step { record { state = self.new; does = target_step_at result answer.new } ≡ framed (extended self.old times) }
+        ensures step { record { state = self.new; does = target_step_at result answer.new }
+            ≡ framed (extended self.old times) }
         ensures spelled { IsSaid (target_step_at result answer.new) }
     {
         if self.due > 0 {
@@ -412,7 +421,8 @@ impl Target {
     /// The time that it asked for was granted.
     fn grant(&mut self, answer: &mut Frame) -> TargetKind
         requires { 0 < self.old.due }
-        ensures step { record { state = self.new; does = target_step_at result answer.new } ≡ framed (granted self.old) }
+        ensures step { record { state = self.new; does = target_step_at result answer.new }
+            ≡ framed (granted self.old) }
         ensures spelled { IsSaid (target_step_at result answer.new) }
     {
         if self.due > 1 {

@@ -42,7 +42,8 @@ req_spelled s l a b c d e f g h i j did bs br pp general clean =
       bytes = cc;
     }
 
-fifteen : (P : List ℕ → Type 0) → ((a b c d e f g h i j k m n o p : ℕ) (more : List ℕ) → P (a ∷ b ∷ c ∷ d ∷ e ∷ f ∷ g ∷ h ∷ i ∷ j ∷ k ∷ m ∷ n ∷ o ∷ p ∷ more)) → (rest : List ℕ) → 15 ≤ length rest → P rest
+fifteen : (P : List ℕ → Type 0) → ((a b c d e f g h i j k m n o p : ℕ) (more : List ℕ) → P (a ∷ b ∷ c ∷ d ∷ e ∷ f ∷ g ∷ h ∷ i ∷ j ∷ k ∷ m ∷ n ∷ o ∷ p ∷ more)) → (rest : List ℕ) → 15 ≤ length rest
+    → P rest
 fifteen P q (a ∷ b ∷ c ∷ d ∷ e ∷ f ∷ g ∷ h ∷ i ∷ j ∷ k ∷ m ∷ n ∷ o ∷ p ∷ more) l = q a b c d e f g h i j k m n o p more
 fifteen P q _ l = absurd (omega (arith, l))
 
@@ -67,7 +68,8 @@ res_spelled s l a b c d e f g h i j did bs br timeout pp general clean =
 
 -- both, by their direction
 pub atr_spelled : (up : Bool) (s l : ℕ) (rest : List ℕ) → dep_refusal (s ∷ l ∷ (if up then answer else request) ∷ (if up then atr_res else atr_req) ∷ rest) ≡ None
-    → DepSpelling (atr_frame up (s ∷ l ∷ (if up then answer else request) ∷ (if up then atr_res else atr_req) ∷ rest)) (s ∷ l ∷ (if up then answer else request) ∷ (if up then atr_res else atr_req) ∷ rest)
+    → DepSpelling (atr_frame up (s ∷ l ∷ (if up then answer else request) ∷ (if up then atr_res else atr_req) ∷ rest))
+    (s ∷ l ∷ (if up then answer else request) ∷ (if up then atr_res else atr_req) ∷ rest)
 atr_spelled false s l rest clean =
     fourteen (λ rest. dep_refusal (s ∷ l ∷ request ∷ atr_req ∷ rest) ≡ None → DepSpelling (atr_frame false (s ∷ l ∷ request ∷ atr_req ∷ rest)) (s ∷ l ∷ request ∷ atr_req ∷ rest))
     (req_spelled s l) rest (req_long s l rest clean) clean

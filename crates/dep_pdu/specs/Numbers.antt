@@ -1,7 +1,9 @@
--- The numbers of NFC-DEP frames (NFCIP-1, which is ISO/IEC 18092; NFC Forum Digital Protocol), and those of the refusals.
+-- The numbers of NFC-DEP frames (NFCIP-1, which is ISO/IEC 18092; NFC Forum Digital Protocol), and those of the
+-- refusals.
 use Rattle.std.specs.Prelude.{ℕ, Bool, if◌then◌else◌}
 use Rattle.dep_pdu.specs.declared.refusal.DepKind.{DepKind}
-use Rattle.dep_pdu.specs.declared.refusal.DepKind.TheVariants.{Start, Length, Short, Direction, Command, Field, Trailing}
+use Rattle.dep_pdu.specs.declared.refusal.DepKind.TheVariants.{Start, Length, Short, Direction, Command, Field}
+use Rattle.dep_pdu.specs.declared.refusal.DepKind.TheVariants.{Trailing}
 
 -- the byte that begins each frame
 abbrev pub start_byte : ℕ

@@ -1,20 +1,26 @@
 -- What bytes are read as, as a function: the value that they spell. The tables of a link are said over it.
-use Rattle.std.specs.Prelude.{◌≡◌, ◌≤◌, ℕ, ◌+◌, ◌/◌, List, length, take, drop, Bool, true, false, if◌then◌else◌, Option, Some, None, Result, Ok, Err}
+use Rattle.std.specs.Prelude.{◌≡◌, ◌≤◌, ℕ, ◌+◌, ◌/◌, List, length, take, drop, Bool, true, false, if◌then◌else◌, Option}
+use Rattle.std.specs.Prelude.{Some, None, Result, Ok, Err}
 use Rattle.dep_pdu.specs.declared.frame.DepFrame.{DepFrame}
-use Rattle.dep_pdu.specs.declared.frame.DepFrame.TheVariants.{AtrReq, AtrRes, Info, Ack, Nack, Attention, Extend, DslReq, DslRes, RlsReq, RlsRes}
+use Rattle.dep_pdu.specs.declared.frame.DepFrame.TheVariants.{AtrReq, AtrRes, Info, Ack, Nack, Attention, Extend}
+use Rattle.dep_pdu.specs.declared.frame.DepFrame.TheVariants.{DslReq, DslRes, RlsReq, RlsRes}
 use Rattle.dep_pdu.specs.declared.refusal.DepRefusal.{DepRefusal}
 use Rattle.dep_pdu.specs.declared.head.Head.{Head}
 use Rattle.dep_pdu.specs.declared.head.Head.TheVariants.{Atr, Dep, Dsl, Rls}
 use Rattle.dep_pdu.specs.declared.pfb.Pfb.{Pfb}
-use Rattle.dep_pdu.specs.declared.pfb.Pfb.TheVariants.{Information, Ack as AckPfb, Nack as NackPfb, Attention as AttentionPfb, Extension as ExtensionPfb}
-use Rattle.dep_pdu.specs.Numbers.{id_size, id_place, timeout_place, pp_place, pfb_place, times_place, direction_place, head_end}
+use Rattle.dep_pdu.specs.declared.pfb.Pfb.TheVariants.{Information, Ack as AckPfb, Nack as NackPfb}
+use Rattle.dep_pdu.specs.declared.pfb.Pfb.TheVariants.{Attention as AttentionPfb, Extension as ExtensionPfb}
+use Rattle.dep_pdu.specs.Numbers.{id_size, id_place, timeout_place, pp_place, pfb_place, times_place, direction_place}
+use Rattle.dep_pdu.specs.Numbers.{head_end}
 use Rattle.dep_pdu.specs.Refusal.{Fault, first, byte, head, pfb, is_direction, named_faults, dep_refusal}
 
 -- ATR_REQ or ATR_RES, where no fault stands
 abbrev pub atr_frame : Bool → List ℕ → DepFrame
 atr_frame up b =
-    if up then AtrRes (take id_size (drop id_place b)) (byte b timeout_place) (byte b (pp_place true) / 16) (record { items = drop (pp_place true + 1) b })
-    else AtrReq (take id_size (drop id_place b)) (byte b (pp_place false) / 16) (record { items = drop (pp_place false + 1) b })
+    if up then AtrRes (take id_size (drop id_place b)) (byte b timeout_place) (byte b (pp_place true) / 16)
+    (record { items = drop (pp_place true + 1) b })
+    else AtrReq (take id_size (drop id_place b)) (byte b (pp_place false) / 16)
+    (record { items = drop (pp_place false + 1) b })
 
 -- a DEP frame by its PFB
 abbrev pub dep_frame : Bool → Option Pfb → List ℕ → Option DepFrame

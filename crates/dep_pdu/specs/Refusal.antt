@@ -1,14 +1,21 @@
 -- What is wrong with bytes that spell no frame: the table of faults, in its order, each at its place. Which of several
 -- faults is told is this project's own.
-use Rattle.std.specs.Prelude.{ℕ, ◌+◌, ◌-◌, ◌%◌, List, [], ◌∷◌, ◌++◌, length, slice_index, Bool, true, false, not, ◌==◌, ◌&&◌, ◌||◌, nat_lt, nat_le, if◌then◌else◌, Option, Some, None, is_none}
+use Rattle.std.specs.Prelude.{ℕ, ◌+◌, ◌-◌, ◌%◌, List, [], ◌∷◌, ◌++◌, length, slice_index, Bool, true, false, not, ◌==◌}
+use Rattle.std.specs.Prelude.{◌&&◌, ◌||◌, nat_lt, nat_le, if◌then◌else◌, Option, Some, None, is_none}
 use Rattle.dep_pdu.specs.declared.refusal.DepRefusal.{DepRefusal}
 use Rattle.dep_pdu.specs.declared.refusal.DepKind.{DepKind}
-use Rattle.dep_pdu.specs.declared.refusal.DepKind.TheVariants.{Start, Length, Short, Direction, Command, Field, Trailing}
+use Rattle.dep_pdu.specs.declared.refusal.DepKind.TheVariants.{Start, Length, Short, Direction, Command, Field}
+use Rattle.dep_pdu.specs.declared.refusal.DepKind.TheVariants.{Trailing}
 use Rattle.dep_pdu.specs.declared.head.Head.{Head}
 use Rattle.dep_pdu.specs.declared.head.Head.TheVariants.{Atr, Dep, Dsl, Rls}
 use Rattle.dep_pdu.specs.declared.pfb.Pfb.{Pfb}
-use Rattle.dep_pdu.specs.declared.pfb.Pfb.TheVariants.{Information, Ack as AckPfb, Nack as NackPfb, Attention as AttentionPfb, Extension as ExtensionPfb}
-use Rattle.dep_pdu.specs.Numbers.{start_byte, request, answer, atr_req, atr_res, dep_req, dep_res, dsl_req, dsl_res, rls_req, rls_res, information, more_information, ack, nack, attention, extension, no_did, general_follow, most_general_req, most_general_res, most_content, most_times, len_place, direction_place, command_place, head_end, did_place, pp_place, pfb_place, times_place}
+use Rattle.dep_pdu.specs.declared.pfb.Pfb.TheVariants.{Information, Ack as AckPfb, Nack as NackPfb}
+use Rattle.dep_pdu.specs.declared.pfb.Pfb.TheVariants.{Attention as AttentionPfb, Extension as ExtensionPfb}
+use Rattle.dep_pdu.specs.Numbers.{start_byte, request, answer, atr_req, atr_res, dep_req, dep_res, dsl_req, dsl_res}
+use Rattle.dep_pdu.specs.Numbers.{rls_req, rls_res, information, more_information, ack, nack, attention, extension}
+use Rattle.dep_pdu.specs.Numbers.{no_did, general_follow, most_general_req, most_general_res, most_content, most_times}
+use Rattle.dep_pdu.specs.Numbers.{len_place, direction_place, command_place, head_end, did_place, pp_place, pfb_place}
+use Rattle.dep_pdu.specs.Numbers.{times_place}
 
 -- a row of the table: whether its fault stands, at which place, and its kind
 pub record Fault : Type 0 where
@@ -63,7 +70,8 @@ numbered_pfb sort pni =
 
 -- what a PFB says; none where reserved bits stand in it
 abbrev pub pfb_of : ℕ → Option Pfb
-pfb_of x = if x == attention then Some AttentionPfb else (if x == extension then Some ExtensionPfb else numbered_pfb (x - x % 4) (x % 4))
+pfb_of x = if x == attention then Some AttentionPfb else (if x == extension then Some ExtensionPfb
+    else numbered_pfb (x - x % 4) (x % 4))
 
 abbrev pub pfb : List ℕ → Option Pfb
 pfb b = pfb_of (byte b pfb_place)
@@ -111,7 +119,8 @@ atr_fields at b =
 abbrev pub dep_fields : Bool → Option Pfb → List ℕ → List Fault
 dep_fields up None b = fault true pfb_place Field ∷ []
 dep_fields up (Some (NackPfb pni)) b = fault up pfb_place Field ∷ []
-dep_fields up (Some ExtensionPfb) b = fault (not (nat_le 1 (byte b times_place) && nat_le (byte b times_place) most_times)) times_place Field ∷ []
+dep_fields up (Some ExtensionPfb) b =
+    fault (not (nat_le 1 (byte b times_place) && nat_le (byte b times_place) most_times)) times_place Field ∷ []
 dep_fields up _ b = []
 
 abbrev pub fields : Option Head → List ℕ → List Fault

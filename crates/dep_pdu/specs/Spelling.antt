@@ -1,9 +1,14 @@
 -- How the frames of NFC-DEP stand in bytes (NFCIP-1, ISO/IEC 18092; NFC Forum Digital Protocol): a frame, a printer
 -- of its bytes, and a fact that says which frames are in range.
-use Rattle.std.specs.Prelude.{◌≡◌, ℕ, ◌+◌, ◌*◌, ◌%◌, ◌<◌, ◌≤◌, List, [], ◌∷◌, ◌++◌, length, Bool, true, false, nat_lt, if◌then◌else◌}
+use Rattle.std.specs.Prelude.{◌≡◌, ℕ, ◌+◌, ◌*◌, ◌%◌, ◌<◌, ◌≤◌, List, [], ◌∷◌, ◌++◌, length, Bool, true, false, nat_lt}
+use Rattle.std.specs.Prelude.{if◌then◌else◌}
 use Rattle.dep_pdu.specs.declared.frame.DepFrame.{DepFrame}
-use Rattle.dep_pdu.specs.declared.frame.DepFrame.TheVariants.{AtrReq, AtrRes, Info, Ack, Nack, Attention, Extend, DslReq, DslRes, RlsReq, RlsRes}
-use Rattle.dep_pdu.specs.Numbers.{start_byte, request, answer, atr_req, atr_res, dep_req, dep_res, dsl_req, dsl_res, rls_req, rls_res, information, more_information, ack, nack, attention, extension, no_did, general_follow, id_size, most_general_req, most_general_res, most_content, most_times}
+use Rattle.dep_pdu.specs.declared.frame.DepFrame.TheVariants.{AtrReq, AtrRes, Info, Ack, Nack, Attention, Extend}
+use Rattle.dep_pdu.specs.declared.frame.DepFrame.TheVariants.{DslReq, DslRes, RlsReq, RlsRes}
+use Rattle.dep_pdu.specs.Numbers.{start_byte, request, answer, atr_req, atr_res, dep_req, dep_res, dsl_req, dsl_res}
+use Rattle.dep_pdu.specs.Numbers.{rls_req, rls_res, information, more_information, ack, nack, attention, extension}
+use Rattle.dep_pdu.specs.Numbers.{no_did, general_follow, id_size, most_general_req, most_general_res, most_content}
+use Rattle.dep_pdu.specs.Numbers.{most_times}
 
 -- What a value leaves open in its bytes: the bit rates BS and BR, which this link doesn't use, and whether PP has 02h
 -- where no general bytes follow.
@@ -27,8 +32,10 @@ dep_head up = if up then answer ∷ dep_res ∷ [] else request ∷ dep_req ∷ 
 -- the bytes behind LEN
 abbrev pub body : LeftOpen → DepFrame → List ℕ
 body o (AtrReq id lr general) = request ∷ atr_req ∷ id ++ no_did ∷ o.bs ∷ o.br ∷ pp_byte lr o.marked ∷ general.items
-body o (AtrRes id timeout lr general) = answer ∷ atr_res ∷ id ++ no_did ∷ o.bs ∷ o.br ∷ timeout ∷ pp_byte lr o.marked ∷ general.items
-body o (Info up more pni content) = dep_head up ++ pfb_byte (if more then more_information else information) pni ∷ content.items
+body o (AtrRes id timeout lr general) = answer ∷ atr_res ∷ id
+    ++ no_did ∷ o.bs ∷ o.br ∷ timeout ∷ pp_byte lr o.marked ∷ general.items
+body o (Info up more pni content) = dep_head up ++ pfb_byte (if more then more_information else information) pni
+    ∷ content.items
 body o (Ack up pni) = dep_head up ++ pfb_byte ack pni ∷ []
 body o (Nack pni) = dep_head false ++ pfb_byte nack pni ∷ []
 body o (Attention up) = dep_head up ++ attention ∷ []

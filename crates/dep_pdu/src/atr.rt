@@ -1,6 +1,7 @@
 //! ATR_REQ and ATR_RES, by which a link begins.
 
-ghost use Rattle.std.specs.Prelude.{◌≡◌, ◌≤◌, ◌<◌, ◌+◌, ◌++◌, Some, true, false, Bool, take, drop, length, slice_index, nat_lt, if◌then◌else◌, IsNone, List};
+ghost use Rattle.std.specs.Prelude.{◌≡◌, ◌≤◌, ◌<◌, ◌+◌, ◌++◌, Some, true, false, Bool, take, drop, length, slice_index};
+ghost use Rattle.std.specs.Prelude.{nat_lt, if◌then◌else◌, IsNone, List};
 ghost use Rattle.dep_pdu.specs.Numbers.{id_size, id_place, did_place, pp_place};
 ghost use Rattle.dep_pdu.specs.Spelling.{framed, pp_byte};
 ghost use Rattle.dep_pdu.specs.Refusal.{first, named_faults, is_pp};

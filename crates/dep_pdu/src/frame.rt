@@ -12,8 +12,8 @@ use crate::refusal::DepRefusal;
 use crate::write::write_frame;
 use arrayvec::ArrayVec;
 
-/// A frame of NFC-DEP (NFCIP-1, ISO/IEC 18092; NFC Forum Digital Protocol). `up` is true from target to initiator, and a
-/// PNI is 0 to 3.
+/// A frame of NFC-DEP (NFCIP-1, ISO/IEC 18092; NFC Forum Digital Protocol). `up` is true from target to initiator, and
+/// a PNI is 0 to 3.
 #[derive(Clone, Debug, Drop, PartialEq, Eq)]
 pub enum DepFrame {
     /// A link begins: the initiator's NFCID3, the code of the longest frames that it takes, 0 to 3 for 64, 128, 192 and

@@ -1,6 +1,7 @@
 //! What bytes are read as, fault by fault.
 
-ghost use Rattle.std.specs.Prelude.{◌≡◌, ◌<◌, ◌≤◌, ◌+◌, ◌==◌, ◌||◌, not, nat_lt, length, slice_index, [], ◌∷◌, Option, Some, true, IsTrue};
+ghost use Rattle.std.specs.Prelude.{◌≡◌, ◌<◌, ◌≤◌, ◌+◌, ◌==◌, ◌||◌, not, nat_lt, length, slice_index, [], ◌∷◌, Option};
+ghost use Rattle.std.specs.Prelude.{Some, true, IsTrue};
 ghost use Rattle.dep_pdu.specs.Numbers.{start_byte, len_place, direction_place, command_place, head_end};
 ghost use Rattle.dep_pdu.specs.Refusal.{dep_faults, head, fault, is_direction};
 ghost use Rattle.dep_pdu.specs.Reading.{Tells, TellsNamed, frame_of};

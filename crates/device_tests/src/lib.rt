@@ -1,7 +1,8 @@
-//! The tests of `bench_devices`, by its public calls: devices step by step, Type 3 tags as they are found and over a link, and links that are opened to
-//! a peer.
+//! The tests of `bench_devices`, by its public calls: devices step by step, Type 3 tags as they are found and over a
+//! link, and links that are opened to a peer.
 //!
-//! They stand here since a crate with tests is proved a second time with them; of this crate nothing else is to be proved.
+//! They stand here since a crate with tests is proved a second time with them; of this crate nothing else is to be
+//! proved.
 #![tactic(auto)]
 
 #[cfg(test)]

@@ -74,7 +74,8 @@ fn tag_field(alloc: Global, fates: &[Fate]) -> Result<Field<Device>, Fail>
     Ok(field)
 }
 
-/// What writing a message of one byte tells, 0 where it is written, and what reading it tells then: how many bytes it has.
+/// What writing a message of one byte tells, 0 where it is written, and what reading it tells then: how many bytes it
+/// has.
 fn write_and_read(alloc: Global, field: &mut Field<Device>) -> (u8, Option<usize>)
     requires { HasThree field.old }
 {
@@ -157,8 +158,8 @@ fn is_talk(events: &[Event], again: usize) -> bool {
     left.next().is_none()
 }
 
-/// The answer to no command, and to each command, is lost, or damaged: that command is sent once more, and every other frame
-/// is the same.
+/// The answer to no command, and to each command, is lost, or damaged: that command is sent once more, and every other
+/// frame is the same.
 #[test]
 fn type_3_tag_is_written_and_read_over_a_link(rt: HostRuntime) -> Result<(), Fail> {
     for again in 0..7usize {

@@ -1,4 +1,5 @@
--- What a dump tells: its text spells a memory, and the memory holds a message, or none for a cause (NFC Forum Type 2 Tag).
+-- What a dump tells: its text spells a memory, and the memory holds a message, or none for a cause (NFC Forum Type 2
+-- Tag).
 use Rattle.std.specs.Prelude.{◌+◌, ◌≡◌, ℕ, ◌<◌, ◌⊎◌, List, length, filter, not, Result, Ok, Err, IsErr}
 use Rattle.std.specs.Char.{is_ascii_whitespace}
 use Rattle.hex.specs.Hex.{decode_of}
@@ -8,7 +9,8 @@ use Rattle.tlv_area.specs.Containers.{t2_container, container_fault_number}
 use Rattle.tlv_area.specs.Form.{Faulty, NoMessageTlv, BadTlv as BadForm, NeedsMore}
 use Rattle.tlv_area.specs.Stores.{IsT2Form, four_bytes}
 use Rattle.dump_message.specs.declared.dump.DumpFault.{DumpFault}
-use Rattle.dump_message.specs.declared.dump.DumpFault.TheVariants.{NotHex, Unread, Unwritten, Memory, Short, Container, NoMessage, BadTlv}
+use Rattle.dump_message.specs.declared.dump.DumpFault.TheVariants.{NotHex, Unread, Unwritten, Memory, Short, Container}
+use Rattle.dump_message.specs.declared.dump.DumpFault.TheVariants.{NoMessage, BadTlv}
 
 -- the exit status of a refusal
 abbrev pub status_of : DumpFault → ℕ

@@ -1,5 +1,5 @@
-//! The message in a dump of a Type 2 tag. Hexadecimal comes by standard input, and the message goes to standard output in
-//! hexadecimal. Where none is told, standard error names the cause, and the exit status is its number.
+//! The message in a dump of a Type 2 tag. Hexadecimal comes by standard input, and the message goes to standard output
+//! in hexadecimal. Where none is told, standard error names the cause, and the exit status is its number.
 #![tactic(auto)]
 
 mod dump;

@@ -29,12 +29,14 @@ module _ {L F : Type 0} (m : Machine L) (linked : L → Bool) (t : FarTable F) (
   back_seen a (Single g) Damage os ns = refl
   back_seen a (Single g) Lose os ns = refl
   back_seen a (Single g) Break os ns =
-      ap (λ z. record { world = record { field = dark m (world a); fars = z; numbers = ns }; queue = later_fates a.fates; trace = a.trace ++ Answer g Break ∷ [] }) (sym (shown_dark m linked t links laws a.listeners os))
+      ap (λ z. record { world = record { field = dark m (world a); fars = z; numbers = ns }; queue = later_fates a.fates; trace = a.trace ++ Answer g Break ∷ [] })
+      (sym (shown_dark m linked t links laws a.listeners os))
   back_seen a (Clashing g) Pass os ns = refl
   back_seen a (Clashing g) Damage os ns = refl
   back_seen a (Clashing g) Lose os ns = refl
   back_seen a (Clashing g) Break os ns =
-      ap (λ z. record { world = record { field = dark m (world a); fars = z; numbers = ns }; queue = later_fates a.fates; trace = a.trace ++ Clash g Break ∷ [] }) (sym (shown_dark m linked t links laws a.listeners os))
+      ap (λ z. record { world = record { field = dark m (world a); fars = z; numbers = ns }; queue = later_fates a.fates; trace = a.trace ++ Clash g Break ∷ [] })
+      (sym (shown_dark m linked t links laws a.listeners os))
 
   module _ {A : Type 0} (restarts : A → List ℕ → A → Type 0) (steps : A → List ℕ → List ℕ → A → Type 0) (view : A → Choosing F) (kind : IsOfTable restarts steps t view)
       (old new : Air L) (f : Signal) (heard : Option Heard) (far after : A) (place : ℕ) (os : List (Option F)) where
@@ -118,7 +120,8 @@ module _ {L F : Type 0} (m : Machine L) (linked : L → Bool) (t : FarTable F) w
   far_starts : (next : List Note → Next) (a : Moment (World L)) (place : ℕ) (os : List (Option F)) (far : Choosing F) → FarGoing m linked t next a a [] place os far far
   far_starts next a place os far = going_start (far_air m linked t) next (at_place a os place far)
 
-  module _ (links : IsLinked m linked) (laws : IsFarTable t) {A : Type 0} (restarts : A → List ℕ → A → Type 0) (steps : A → List ℕ → List ℕ → A → Type 0) (view : A → Choosing F) (kind : IsOfTable restarts steps t view)
+  module _ (links : IsLinked m linked) (laws : IsFarTable t) {A : Type 0} (restarts : A → List ℕ → A → Type 0) (steps : A → List ℕ → List ℕ → A → Type 0) (view : A → Choosing F)
+      (kind : IsOfTable restarts steps t view)
       (next : List Note → Next) (place : ℕ) (os : List (Option F)) (old : Air L) (far : A) where
     speaks_on : (ns seen : List Note) (mid : Air L) (half : A) (new : Air L) (after : A)
         → FarGoing m linked t next (moment old) (moment mid) seen place os (view far) (view half)
@@ -130,14 +133,16 @@ module _ {L F : Type 0} (m : Machine L) (linked : L → Bool) (t : FarTable F) w
         let R : Air L → Type 0 = λ z. FarGoing m linked t next (moment old) (moment z) seen place os (view far) (view half) in
         subst P (sym (append-nil seen)) (subst Q (sym d.1) (subst R (sym d.0) g))
     speaks_on (n ∷ ns) seen mid half new after g (f, h, to, far_to, due, known, turn, rest) q =
-        let one : FarTurn m linked t (moment mid) (moment to) f h place os (view half) (view far_to) = far_turns m linked t restarts steps view links laws kind mid to f h half far_to place os q.0 turn in
+        let one : FarTurn m linked t (moment mid) (moment to) f h place os (view half) (view far_to) =
+        far_turns m linked t restarts steps view links laws kind mid to f h half far_to place os q.0 turn in
         let P : Note → Type 0 = λ z. FarGoing m linked t next (moment old) (moment to) (seen ++ z ∷ []) place os (view far) (view far_to) in
         let k : FarGoing m linked t next (moment old) (moment to) (seen ++ n ∷ []) place os (view far) (view far_to) =
         subst P (sym known) (far_goes_on next (moment old) (moment mid) (moment to) f h seen place os (view far) (view half) (view far_to) g due one) in
         let Q : List Note → Type 0 = λ z. FarGoing m linked t next (moment old) (moment new) z place os (view far) (view after) in
         subst Q (append_assoc seen (n ∷ []) ns) (speaks_on ns (seen ++ n ∷ []) to far_to new after k rest q.1)
 
-pub speaks_far : {L F A : Type 0} (m : Machine L) (linked : L → Bool) (t : FarTable F) (restarts : A → List ℕ → A → Type 0) (steps : A → List ℕ → List ℕ → A → Type 0) (next : List Note → Next) (place : ℕ) (view : A → Choosing F)
+pub speaks_far : {L F A : Type 0} (m : Machine L) (linked : L → Bool) (t : FarTable F) (restarts : A → List ℕ → A → Type 0) (steps : A → List ℕ → List ℕ → A → Type 0) (next : List Note → Next)
+    (place : ℕ) (view : A → Choosing F)
     → SpeaksFar m linked t restarts steps next place view
 speaks_far m linked t restarts steps next place view links laws kind old new far after notes s q os =
     speaks_on m linked t links laws restarts steps view kind next place os old far notes [] old far new after (far_starts m linked t next (moment old) place os (view far)) s.turns q

@@ -195,7 +195,8 @@ module _ {L F : Type 0} (m : Machine L) (linked : L → Bool) (t : FarTable F) (
           let n : List ℕ = (view h.3).numbers in
           met_same _ _ _ _ _ _ _ _ one.device one.far_is one.says
           (ap (all_meet m linked t f ls (shown linked t ls (later_fars os))) one.numbers ∙ meets_quietly f ls (later_fars os) n q)
-          ∙ ap (λ z. met_first h.2 (far_of h.2 h.3) h.0 (record { listeners = z; fars = shown linked t z (later_fars os); answers = filter_map (λ x. answered_by m x f None) ls; numbers = n })) (sym rest.1)
+          ∙ ap (λ z. met_first h.2 (far_of h.2 h.3) h.0 (record { listeners = z; fars = shown linked t z (later_fars os); answers = filter_map (λ x. answered_by m x f None) ls; numbers = n }))
+          (sym rest.1)
           ∙ ap (λ z. met_first h.2 (far_of h.2 h.3) h.0 (record { listeners = h.4; fars = shown linked t h.4 (later_fars os); answers = z; numbers = n })) (sym rest.0)
           ∙ ap (λ z. met_at (h.2 ∷ h.4) (cons_option h.0 h.1) os zero (view z)) (sym rest.2)
           ∙ ap (λ z. met_at z (cons_option h.0 h.1) os zero (view far')) (sym h.8) ∙ ap (λ z. met_at ls' z os zero (view far')) (sym h.7)

@@ -19,7 +19,6 @@ use Rattle.far_air.proofs.Meeting.{meets_quietly}
 use Rattle.far_air.proofs.OnField.{turns_of_field, quiet_fields}
 
 module _ {L F : Type 0} (m : Machine L) (linked : L → Bool) (t : FarTable F) (links : IsLinked m linked) (laws : IsFarTable t) where
-
   came_quietly : (w : World L) (os : List (Option F)) (ns : List ℕ) (g : Signal) (x : Fate) → far_happens m linked t (seen linked t w os ns) (Answer g x) ≡ seen linked t (came_back m w x) os ns
   came_quietly w os ns g Pass = refl
   came_quietly w os ns g Damage = refl

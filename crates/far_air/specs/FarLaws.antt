@@ -25,13 +25,17 @@ pub record IsLinked {L : Type 0} (m : Machine L) (linked : L → Bool) : Type 0 
 
 -- A far end of the code, whose steps are relations, is one of this table: seen so, each step is the table's, by the
 -- next of the numbers that are left to it. A new link takes none.
-pub record IsOfTable {A F : Type 0} (restarts : A → List ℕ → A → Type 0) (steps : A → List ℕ → List ℕ → A → Type 0) (t : FarTable F) (view : A → Choosing F) : Type 0 where
+pub record IsOfTable {A F : Type 0} (restarts : A → List ℕ → A → Type 0) (steps : A → List ℕ → List ℕ → A → Type 0)
+    (t : FarTable F) (view : A → Choosing F) : Type 0 where
   pub restart : (a : A) (general : List ℕ) (b : A) → restarts a general b
       → view b ≡ record { end = t.restarted (view a).end general; numbers = (view a).numbers }
   pub reply : (a : A) (payload reply : List ℕ) (b : A) → steps a payload reply b
       → reply ≡ t.reply (view a).end payload (first_number (view a).numbers)
   pub left : (a : A) (payload reply : List ℕ) (b : A) → steps a payload reply b
-      → view b ≡ record { end = t.left (view a).end payload (first_number (view a).numbers); numbers = later_numbers (view a).numbers }
+      → view b ≡ record {
+        end = t.left (view a).end payload (first_number (view a).numbers);
+        numbers = later_numbers (view a).numbers;
+      }
 
 -- far ends, of which that of one place is this
 abbrev pub with_far : {F : Type 0} → List (Option F) → ℕ → F → List (Option F)

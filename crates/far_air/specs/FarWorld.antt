@@ -56,7 +56,8 @@ module _ {L F : Type 0} (m : Machine L) (linked : L → Bool) (t : FarTable F) w
   abbrev pub all_meet : Signal → List L → List (Option F) → List ℕ → AllMet L F
   all_meet f [] os ns = record { listeners = []; fars = []; answers = []; numbers = ns }
   all_meet f (l ∷ ls) os ns =
-      met_first (device_after l f (first_far os) ns) (far_after l f (first_far os) ns) (answered_by m l f (reply_at l f (first_far os) ns))
+      met_first (device_after l f (first_far os) ns) (far_after l f (first_far os) ns)
+      (answered_by m l f (reply_at l f (first_far os) ns))
       (all_meet f ls (later_fars os) (numbers_left (reply_at l f (first_far os) ns) ns))
 
   -- all devices meet the frame

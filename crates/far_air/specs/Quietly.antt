@@ -1,5 +1,5 @@
--- The first bridge: where no device hands anything over, a stretch of the world with far ends is one of the quiet air, and the far
--- ends stay.
+-- The first bridge: where no device hands anything over, a stretch of the world with far ends is one of the quiet air,
+-- and the far ends stay.
 use Rattle.std.specs.Prelude.{◌≡◌, ◌↔◌, ℕ, List, [], ◌∷◌, Bool, false, Option}
 use Rattle.std.specs.List.{AllByRecursion}
 use Rattle.nfc_base.specs.declared.event.Event.{Event}
@@ -59,27 +59,32 @@ module _ {L : Type 0} (m : Machine L) where
         × ((w : World L) (es : List Event) → AreCalm es → StaysUnlinked w (Reset ∷ es))
 
 module _ {L F : Type 0} (m : Machine L) (linked : L → Bool) (t : FarTable F) where
-  -- Whatever the far ends are: a stretch does to the field what it does on the quiet air, and which numbers there are decides nothing.
+  -- Whatever the far ends are: a stretch does to the field what it does on the quiet air, and which numbers there are
+  -- decides nothing.
   pub record DoesQuietly (w : FarWorld L F) (es : List Event) : Type 0 where
     pub field : (replay (far_air m linked t) w es).field ≡ replay (quiet_air m) w.field es
     pub turns : AreTurns (far_air m linked t) w es ↔ AreTurns (quiet_air m) w.field es
-    pub numbers : (ns : List ℕ) → replay (far_air m linked t) (with_numbers w ns) es ≡ with_numbers (replay (far_air m linked t) w es) ns
+    pub numbers : (ns : List ℕ) → replay (far_air m linked t) (with_numbers w ns) es
+        ≡ with_numbers (replay (far_air m linked t) w es) ns
 
   abbrev pub QuietFields : Type 0
   QuietFields = (w : FarWorld L F) (es : List Event) → NoneHands m w.field es → DoesQuietly w es
 
-  -- A stretch is one of the quiet air; it leads to the same field, and the code's far ends and the numbers are as before.
+  -- A stretch is one of the quiet air; it leads to the same field, and the code's far ends and the numbers are as
+  -- before.
   pub record IsQuietStretch (w : World L) (os : List (Option F)) (ns : List ℕ) (es : List Event) : Type 0 where
     pub after : replay (far_air m linked t) (seen linked t w os ns) es ≡ seen linked t (replay (quiet_air m) w es) os ns
     pub turns : AreTurns (far_air m linked t) (seen linked t w os ns) es ↔ AreTurns (quiet_air m) w es
 
   abbrev pub QuietStretches : Type 0
   QuietStretches = IsLinked m linked → IsFarTable t
-      → (w : World L) (os : List (Option F)) (ns : List ℕ) (es : List Event) → NoneHands m w es → IsQuietStretch w os ns es
+      → (w : World L) (os : List (Option F)) (ns : List ℕ) (es : List Event) → NoneHands m w es
+      → IsQuietStretch w os ns es
 
   -- So what a conversation over the quiet air did, it did over this one.
   abbrev pub QuietGoings : Type 0
   QuietGoings = IsLinked m linked → IsFarTable t
-      → (next : List Note → Next) (old new : Moment (World L)) (notes : List Note) (g : Going (quiet_air m) next old new notes)
+      → (next : List Note → Next) (old new : Moment (World L)) (notes : List Note)
+      (g : Going (quiet_air m) next old new notes)
       → NoneHands m old.world g.events → (os : List (Option F)) (ns : List ℕ)
       → Going (far_air m linked t) next (seen_at linked t old os ns) (seen_at linked t new os ns) notes

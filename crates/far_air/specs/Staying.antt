@@ -28,7 +28,8 @@ module _ {L F : Type 0} (m : Machine L) (linked : L → Bool) (t : FarTable F) w
   abbrev pub NoPayloads : FarWorld L F → List Event → Type 0
   NoPayloads w [] = Unit {0}
   NoPayloads w (Reset ∷ es) = NoPayloads (far_happens m linked t w Reset) es
-  NoPayloads w (Request f x ∷ es) = NoPayloadAt x f w.field.listeners × NoPayloads (far_happens m linked t w (Request f x)) es
+  NoPayloads w (Request f x ∷ es) = NoPayloadAt x f w.field.listeners
+      × NoPayloads (far_happens m linked t w (Request f x)) es
   NoPayloads w (Answer g x ∷ es) = NoPayloads (far_happens m linked t w (Answer g x)) es
   NoPayloads w (Clash g x ∷ es) = NoPayloads (far_happens m linked t w (Clash g x)) es
 

@@ -1,5 +1,5 @@
--- Two frames of a field with a tag and two peers, computed: the first begins a link with one of the peers, the second hands its far end
--- a payload; then the field is lost. (These devices and far ends stand for this example alone.)
+-- Two frames of a field with a tag and two peers, computed: the first begins a link with one of the peers, the second
+-- hands its far end a payload; then the field is lost. (These devices and far ends stand for this example alone.)
 use Rattle.std.specs.Prelude.{◌≡◌, ℕ, List, [], ◌∷◌, ◌++◌, Bool, true, false, if◌then◌else◌, ◌==◌, Option, Some, None}
 use Rattle.nfc_base.specs.declared.frame.Tech.TheVariants.{A}
 use Rattle.nfc_base.specs.declared.event.Event.TheVariants.{Request, Answer}
@@ -20,7 +20,8 @@ abbrev pub has_link : Toy → Bool
 has_link Tag = false
 has_link (Peer name link) = link
 
--- A frame begins with the name of a peer. The first one begins a link with the bytes behind the name, and each later one hands them over.
+-- A frame begins with the name of a peer. The first one begins a link with the bytes behind the name, and each later
+-- one hands them over.
 abbrev pub asked_of : ℕ → Bool → List ℕ → FarUse
 asked_of name link [] = Untouched
 asked_of name link (to ∷ bytes) = if to == name then (if link then Hands bytes else Restarts bytes) else Untouched
@@ -54,9 +55,17 @@ toy_dark Tag = Tag
 toy_dark (Peer name link) = Peer name false
 
 abbrev pub toys : Machine Toy
-toys = record { tech = λ l. A; handed = toy_handed; answer = toy_answer; after = toy_after; woken = λ l. l; darkened = toy_dark }
+toys = record {
+  tech = λ l. A;
+  handed = toy_handed;
+  answer = toy_answer;
+  after = toy_after;
+  woken = λ l. l;
+  darkened = toy_dark;
+}
 
--- A far end keeps the payloads that it took, and has the general bytes of its link. It replies the number, these bytes and the payload.
+-- A far end keeps the payloads that it took, and has the general bytes of its link. It replies the number, these bytes
+-- and the payload.
 pub record Box : Type 0 where
   pub kept : List (List ℕ)
   pub general : List ℕ
@@ -99,8 +108,12 @@ abbrev pub second_frame : Signal
 second_frame = whole_a (7 ∷ 1 ∷ 2 ∷ [])
 
 pub record TwoFrames : Type 0 where
-  pub first : turn_events (far_air toys has_link boxes) at_first first_frame Pass Pass ≡ Request first_frame Pass ∷ Answer (whole_a (7 ∷ [])) Pass ∷ []
-  pub begins : replay (far_air toys has_link boxes) at_first (Request first_frame Pass ∷ Answer (whole_a (7 ∷ [])) Pass ∷ []) ≡ with_link
-  pub second : turn_events (far_air toys has_link boxes) with_link second_frame Pass Pass ≡ Request second_frame Pass ∷ Answer (whole_a (3 ∷ 70 ∷ 1 ∷ 2 ∷ [])) Pass ∷ []
-  pub hands : replay (far_air toys has_link boxes) with_link (Request second_frame Pass ∷ Answer (whole_a (3 ∷ 70 ∷ 1 ∷ 2 ∷ [])) Pass ∷ []) ≡ with_payload
+  pub first : turn_events (far_air toys has_link boxes) at_first first_frame Pass Pass
+      ≡ Request first_frame Pass ∷ Answer (whole_a (7 ∷ [])) Pass ∷ []
+  pub begins : replay (far_air toys has_link boxes) at_first
+      (Request first_frame Pass ∷ Answer (whole_a (7 ∷ [])) Pass ∷ []) ≡ with_link
+  pub second : turn_events (far_air toys has_link boxes) with_link second_frame Pass Pass
+      ≡ Request second_frame Pass ∷ Answer (whole_a (3 ∷ 70 ∷ 1 ∷ 2 ∷ [])) Pass ∷ []
+  pub hands : replay (far_air toys has_link boxes) with_link
+      (Request second_frame Pass ∷ Answer (whole_a (3 ∷ 70 ∷ 1 ∷ 2 ∷ [])) Pass ∷ []) ≡ with_payload
   pub dark : replay (far_air toys has_link boxes) with_payload (Request first_frame Break ∷ []) ≡ in_the_dark

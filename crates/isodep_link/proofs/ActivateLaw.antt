@@ -107,7 +107,8 @@ module _ {L : Type 0} (k : Ghosts L) (laws : Laws k) (card : L → CardState) (t
           let asks : stand 0 (rats ∷ []) o.sent.notes ≡ Asking bad (rats ∷ []) = o.sent.stands ∙ asking_bad rats bad bound in
           record {
             notes = o.sent.notes ++ note h ∷ [];
-            going = going_turn (quiet_air k.machine) (waits_next (rats ∷ [])) (moment old) (moment mid) (moment new) rats h o.sent.notes o.sent.going (ap due_at asks) (quiet_turns_to k.machine mid new rats far far' h q);
+            going = going_turn (quiet_air k.machine) (waits_next (rats ∷ [])) (moment old) (moment mid) (moment new) rats h o.sent.notes o.sent.going (ap due_at asks)
+                (quiet_turns_to k.machine mid new rats far far' h q);
             stands = stand_on 0 (rats ∷ []) o.sent.notes bad (rats ∷ []) asks [] (note h ∷ []) ∙ e;
           }
 

@@ -49,7 +49,8 @@ module _ {L : Type 0} (m : Machine L) (old : Air L) (i0 : ReaderState) (command 
   pub command_said : (far : Mute) (i : ReaderState) (f : Signal) → asks i0 (command ∷ []) ≡ Waits i f [] → CommandSaid m old old i0 command far i f
   command_said far i f e = record { first = far; notes = []; on = on_start m mute_restarts mute_steps (iso_next i0 (command ∷ [])) old far; stands = e }
 
-  command_told : (new : Air L) (ns : List Note) (s : IsoStanding) (i' : ReaderState) (r : Result Signal AskFault) (far after : Mute) → Speaks m mute_restarts mute_steps (iso_next i0 (command ∷ [])) old far new after ns
+  command_told : (new : Air L) (ns : List Note) (s : IsoStanding) (i' : ReaderState) (r : Result Signal AskFault) (far after : Mute)
+      → Speaks m mute_restarts mute_steps (iso_next i0 (command ∷ [])) old far new after ns
       → stand (asks i0 (command ∷ [])) ns ≡ s → AnswersCommand old.lit i0 command ns s i' r → AsksCommand m old new i0 i' command r
   command_told new ns s i' r far after speaks e a =
       record { notes = ns; speaks = record { far = far; after = after; speaks = speaks }; answers = subst (λ (x : IsoStanding). AnswersCommand old.lit i0 command ns x i' r) (sym e) a }
@@ -103,7 +104,8 @@ module _ {L : Type 0} (m : Machine L) (old : Air L) (i0 : ReaderState) (command 
           command_told new (o.notes ++ Lost ∷ []) (Broken ask.FieldLost) i (Err ask.FieldLost) o.first far'
           (on_lost m mute_restarts mute_steps next old o.first mid new far far' o.notes f o.on command_due t) (command_then Lost) refl
 
-      pub command_stopped : ((a b : Mute) (p : List ℕ) → stops a p b → ⊥) → Transmits m mute_restarts mute_steps stops is_stuck mid f far (Err air.Memory) new far' → AsksCommand m old new i0 i command (Err ask.Memory)
+      pub command_stopped : ((a b : Mute) (p : List ℕ) → stops a p b → ⊥) → Transmits m mute_restarts mute_steps stops is_stuck mid f far (Err air.Memory) new far'
+          → AsksCommand m old new i0 i command (Err ask.Memory)
       command_stopped never t =
           let s = on_resting m mute_restarts mute_steps next old o.first mid new far far' o.notes f o.on {R = Result Signal AskFault} (Err ask.FieldLost) (Err ask.Memory) stops is_stuck never t in
           command_told new o.notes (Waits i f []) i (Err ask.Memory) o.first far' s.0 o.stands (refl, s.1)

@@ -1,5 +1,6 @@
 -- A reader that asks a command of a Type 4 tag keeps the law of the exchange, turn by turn.
-use Rattle.std.proofs.Common.{◌≡◌, ℕ, ◌+◌, ◌-◌, ◌*◌, ◌<◌, ◌≤◌, ◌⊎◌, inl, inr, List, [], ◌∷◌, ◌++◌, length, slice_index, map, Bool, true, false, Option, Some, None, Ok, Err, refl, sym, ◌∙◌, ap, subst, arith, append_assoc, append-nil}
+use Rattle.std.proofs.Common.{◌≡◌, ℕ, ◌+◌, ◌-◌, ◌*◌, ◌<◌, ◌≤◌, ◌⊎◌, inl, inr, List, [], ◌∷◌, ◌++◌, length, slice_index, map, Bool, true, false, Option, Some, None, Ok, Err, refl, sym, ◌∙◌, ap, subst}
+use Rattle.std.proofs.Common.{arith, append_assoc, append-nil}
 use Rattle.std.specs.List.{AllByRecursion}
 use Rattle.nfc_base.specs.Signal.{Signal, whole_a}
 use Rattle.nfc_base.specs.TagLinks.{TagState, TagStep, passed}
@@ -97,7 +98,8 @@ module _ {L : Type 0} (k : Ghosts L) (card : L → CardState) (tag : L → TagSt
   -- how the exchange stands
   abbrev pub StandsBy : List Event → ReaderState → CardState → List Event → TagState → Stage Signal → Type 0
   StandsBy es0 i t es held stage =
-      Along iso_dep commands command (keeps (card begin).most (card begin).busy command) (2 * pieces i0.core.most command) TagState (TagDoes (k.commands begin)) arrived es0 (tag begin) i t es held stage
+      Along iso_dep commands command (keeps (card begin).most (card begin).busy command) (2 * pieces i0.core.most command) TagState (TagDoes (k.commands begin)) arrived es0 (tag begin) i t es held
+      stage
 
   -- Where the reader stands in a field that is as lit as it was: the listener heard these frames, the exchange keeps its law,
   -- each request was due, and no turn was made in the dark.
@@ -229,11 +231,14 @@ module _ {L : Type 0} (k : Ghosts L) (laws : Laws k) where
           turn : CardTurn k laws card tag holds mid new place last f h
           turn = card_turn k laws card tag holds mid place last f last_alone last_tag is_asked far far' new h q
 
-          onward : Onward iso_dep commands command (keeps (card begin).most (card begin).busy command) (2 * pieces i0.core.most command) TagState (TagDoes (k.commands begin)) arrived old.trace (tag begin) i h (card turn.left) new.trace turn.held
+          onward : Onward iso_dep commands command (keeps (card begin).most (card begin).busy command) (2 * pieces i0.core.most command) TagState (TagDoes (k.commands begin)) arrived old.trace
+              (tag begin) i h (card turn.left) new.trace turn.held
           onward =
-              goes_along iso_dep commands command (keeps (card begin).most (card begin).busy command) (2 * pieces i0.core.most command) TagState (TagDoes (k.commands begin)) arrived old.trace (tag begin)
+              goes_along iso_dep commands command (keeps (card begin).most (card begin).busy command) (2 * pieces i0.core.most command) TagState (TagDoes (k.commands begin)) arrived old.trace
+              (tag begin)
               i (card last) (card turn.left) mid.trace new.trace (tag last) turn.held f h o.along
-              (subst (λ (g : TagState → Signal → TagStep). IsTurn iso_dep TagState IsShort (TagDoes g) (card last) mid.trace (tag last) f h (card turn.left) new.trace turn.held) (reached_same begin o.frames).commands' turn.turn)
+              (subst (λ (g : TagState → Signal → TagStep). IsTurn iso_dep TagState IsShort (TagDoes g) (card last) mid.trace (tag last) f h (card turn.left) new.trace turn.held)
+              (reached_same begin o.frames).commands' turn.turn)
 
           going_on : Going (quiet_air k.machine) (iso_next i0 (command ∷ [])) (moment old) (moment new) (o.notes ++ note h ∷ [])
           going_on = going_turn (quiet_air k.machine) (iso_next i0 (command ∷ [])) (moment old) (moment mid) (moment new) f h o.notes o.going due (quiet_turns_to k.machine mid new f far far' h q)
@@ -244,18 +249,22 @@ module _ {L : Type 0} (k : Ghosts L) (laws : Laws k) where
           -- the card says something
           speaks : k.machine.answer last f None ≡ None → ⊥
           speaks e =
-              let j = subst (λ (x : Stage Signal). J iso_dep commands command (keeps (card begin).most (card begin).busy command) (2 * pieces i0.core.most command) o.along.world x) o.along.stage_is o.along.inv in
+              let j = subst (λ (x : Stage Signal). J iso_dep commands command (keeps (card begin).most (card begin).busy command) (2 * pieces i0.core.most command) o.along.world x) o.along.stage_is
+              o.along.inv in
               let s : StepsByCard k card tag last f = last_tag.steps [] tt f is_asked in
               let d : iso_dep.does (card last) f ≡ Quiet = says_some iso_dep s.reply (iso_dep.heard (card last) f) (iso_dep.does (card last) f) (sym s.answer ∙ e) in
-              speaks_at (card begin).most (card begin).busy command o.along.world.asking o.along.world.answering o.along.world.given f j.0 j.1 (subst (λ (x : CardState). iso_dep.does x f ≡ Quiet) (sym o.along.answering) d)
+              speaks_at (card begin).most (card begin).busy command o.along.world.asking o.along.world.answering o.along.world.given f j.0 j.1
+              (subst (λ (x : CardState). iso_dep.does x f ≡ Quiet) (sym o.along.answering) d)
 
           live : (i.phase ≡ phases.Asked) ⊎ (i.phase ≡ phases.Nacked)
           live =
-              let j = subst (λ (x : Stage Signal). J iso_dep commands command (keeps (card begin).most (card begin).busy command) (2 * pieces i0.core.most command) o.along.world x) o.along.stage_is o.along.inv in
+              let j = subst (λ (x : Stage Signal). J iso_dep commands command (keeps (card begin).most (card begin).busy command) (2 * pieces i0.core.most command) o.along.world x) o.along.stage_is
+              o.along.inv in
               subst (λ (x : ReaderState). (x.phase ≡ phases.Asked) ⊎ (x.phase ≡ phases.Nacked)) o.along.asking
               (live_of (card begin).most (card begin).busy command o.along.world.asking o.along.world.answering o.along.world.given f j.0 j.1)
 
-          calm_or : (noise turn.added ≡ 0 → (k.machine.answer last f None ≡ None) ⊎ ((g : Signal) × (h ≡ Some (heards.Whole g)))) → ((g : Signal) → h ≡ Some (heards.Whole g) → ⊥) → 0 < noise turn.added
+          calm_or : (noise turn.added ≡ 0 → (k.machine.answer last f None ≡ None) ⊎ ((g : Signal) × (h ≡ Some (heards.Whole g)))) → ((g : Signal) → h ≡ Some (heards.Whole g) → ⊥)
+              → 0 < noise turn.added
           calm_or calm never = positive (noise turn.added) (λ z. go (calm z))
             where
               go : (k.machine.answer last f None ≡ None) ⊎ ((g : Signal) × (h ≡ Some (heards.Whole g))) → ⊥
@@ -300,11 +309,14 @@ module _ {L : Type 0} (k : Ghosts L) (laws : Laws k) where
 
       pub once_along : (es0 es : List Event) (i : ReaderState) (t : CardState) (held : TagState) (stage : Stage Signal) (a : Stands es0 i t es held stage) → OnceAlong a.world
       once_along es0 es i t held stage a =
-          kept_once iso_dep commands command (keeps (card begin).most (card begin).busy command) (λ g. Unit {0}) (pieces i0.core.most command) (blocks_back (card begin)) (λ r. omega arith) a.world a.inv
+          kept_once iso_dep commands command (keeps (card begin).most (card begin).busy command) (λ g. Unit {0}) (pieces i0.core.most command) (blocks_back (card begin)) (λ r. omega arith) a.world
+          a.inv
 
       -- the stores that the tag shows in one turn more
-      module _ (old mid new : Air L) (place : ℕ) (i : ReaderState) (stage0 : Stage Signal) (s0 : IsoStanding) (o : On old mid place i stage0 s0) (more : List Event) (trace : new.trace ≡ mid.trace ++ more)
-          (i' : ReaderState) (t' : CardState) (held : TagState) (stage : Stage Signal) (b : Stands old.trace i' t' new.trace held stage) (shown : Shows held.store (stores_after k place (world mid) more)) where
+      module _ (old mid new : Air L) (place : ℕ) (i : ReaderState) (stage0 : Stage Signal) (s0 : IsoStanding) (o : On old mid place i stage0 s0) (more : List Event)
+          (trace : new.trace ≡ mid.trace ++ more)
+          (i' : ReaderState) (t' : CardState) (held : TagState) (stage : Stage Signal) (b : Stands old.trace i' t' new.trace held stage)
+          (shown : Shows held.store (stores_after k place (world mid) more)) where
         abbrev first : L
         first = reached k begin o.frames
 
@@ -375,7 +387,8 @@ module _ {L : Type 0} (k : Ghosts L) (laws : Laws k) where
           abbrev t : CardTurn k laws card tag holds mid new place (reached k begin o.frames) f (Some h)
           t = turn old mid place i f bytes o far far' new (Some h) q
 
-          n : Onward iso_dep commands command (keeps (card begin).most (card begin).busy command) (2 * pieces i0.core.most command) TagState (TagDoes (k.commands begin)) arrived old.trace (tag begin) i (Some h) (card t.left) new.trace t.held
+          n : Onward iso_dep commands command (keeps (card begin).most (card begin).busy command) (2 * pieces i0.core.most command) TagState (TagDoes (k.commands begin)) arrived old.trace (tag begin)
+              i (Some h) (card t.left) new.trace t.held
           n = onward old mid place i f bytes o far far' new (Some h) q
 
           abbrev Next_on : Type 0
@@ -401,8 +414,10 @@ module _ {L : Type 0} (k : Ghosts L) (laws : Laws k) where
                 going = going_on old mid place i f bytes o far far' new (Some h) q;
                 stands = stands_then old mid place i f bytes o far far' new (Some h) q;
                 seen = o.seen ++ t.added;
-                seen_is = seen_on old mid new place i (Requests f) (Waits i f []) o t.added t.trace (reader_table i h).state (card (reached k begin fs)) (tag (reached k begin fs)) (stage_of (reader_does (reader_table i h).does)) al sh;
-                images = images_on old mid new place i (Requests f) (Waits i f []) o t.added t.trace (reader_table i h).state (card (reached k begin fs)) (tag (reached k begin fs)) (stage_of (reader_does (reader_table i h).does)) al sh;
+                seen_is = seen_on old mid new place i (Requests f) (Waits i f []) o t.added t.trace (reader_table i h).state (card (reached k begin fs)) (tag (reached k begin fs))
+                    (stage_of (reader_does (reader_table i h).does)) al sh;
+                images = images_on old mid new place i (Requests f) (Waits i f []) o t.added t.trace (reader_table i h).state (card (reached k begin fs)) (tag (reached k begin fs))
+                    (stage_of (reader_does (reader_table i h).does)) al sh;
               }
 
           by_left : (t.left ≡ reached k begin o.frames) ⊎ (t.left ≡ k.machine.after (reached k begin o.frames) f None) → tag t.left ≡ t.held → new.lit ≡ true → Next_on
@@ -417,10 +432,12 @@ module _ {L : Type 0} (k : Ghosts L) (laws : Laws k) where
           abbrev t0 : CardTurn k laws card tag holds mid new place (reached k begin o.frames) f None
           t0 = turn old mid place i f bytes o far far' new None q
 
-          n0 : Onward iso_dep commands command (keeps (card begin).most (card begin).busy command) (2 * pieces i0.core.most command) TagState (TagDoes (k.commands begin)) arrived old.trace (tag begin) i None (card t0.left) new.trace t0.held
+          n0 : Onward iso_dep commands command (keeps (card begin).most (card begin).busy command) (2 * pieces i0.core.most command) TagState (TagDoes (k.commands begin)) arrived old.trace (tag begin)
+              i None (card t0.left) new.trace t0.held
           n0 = onward old mid place i f bytes o far far' new None q
 
-          lost_left : (was : L) (fs : List Signal) → AllByRecursion IsAskedFrame fs → was ≡ reached k begin fs → t0.left ≡ k.machine.darkened was → tag was ≡ t0.held → new.lit ≡ false → Lost old new place
+          lost_left : (was : L) (fs : List Signal) → AllByRecursion IsAskedFrame fs → was ≡ reached k begin fs → t0.left ≡ k.machine.darkened was → tag was ≡ t0.held → new.lit ≡ false
+              → Lost old new place
           lost_left was fs a e d held lit =
               let b = heard_nothing old.trace new.trace i (card t0.left) t0.held n0.hears n0.heard_is n0.along in
               let al : Stands old.trace i (card t0.left) new.trace (tag (reached k begin fs)) Dark =
@@ -444,7 +461,8 @@ module _ {L : Type 0} (k : Ghosts L) (laws : Laws k) where
                 images = images_on old mid new place i (Requests f) (Waits i f []) o t0.added t0.trace i (card t0.left) (tag (reached k begin fs)) Dark al sh;
               }
 
-          lost_by : (was : L) → (was ≡ reached k begin o.frames) ⊎ (was ≡ k.machine.after (reached k begin o.frames) f None) → t0.left ≡ k.machine.darkened was → tag was ≡ t0.held → new.lit ≡ false → Lost old new place
+          lost_by : (was : L) → (was ≡ reached k begin o.frames) ⊎ (was ≡ k.machine.after (reached k begin o.frames) f None) → t0.left ≡ k.machine.darkened was → tag was ≡ t0.held → new.lit ≡ false
+              → Lost old new place
           lost_by was (inl e) d held lit = lost_left was o.frames o.asked e d held lit
           lost_by was (inr e) d held lit = lost_left was more_frames more_asked (e ∙ reached_more) d held lit
 
@@ -480,7 +498,8 @@ module _ {L : Type 0} (k : Ghosts L) (laws : Laws k) where
             stands = stands;
             images =
                 (let same : seen ≡ a.added = append_cancel_left old.trace seen a.added (sym seen_is ∙ a.events) in
-                let given : GivenBy (TagDoes (k.commands begin)) (tag begin) command g held = subst (λ (x : Option (List ℕ)). GivenBy (TagDoes (k.commands begin)) (tag begin) command x held) e a.given in
+                let given : GivenBy (TagDoes (k.commands begin)) (tag begin) command g held = subst (λ (x : Option (List ℕ)). GivenBy (TagDoes (k.commands begin)) (tag begin) command x held) e
+                a.given in
                 subst (λ (es : List Event). Follows (k.store begin) (stores_after k place (world old) es) (passed (k.commands begin) (tag begin) (map whole_a (delivered_of command g)))) same
                 (subst (λ (xs : List (List ℕ)). Follows (k.store begin) (stores_after k place (world old) seen) xs) (passed_by g held given)
                 (subst (λ (x : Option (List ℕ)). Follows (k.store begin) (stores_after k place (world old) seen) (after_it x held.store)) e images)));
@@ -495,7 +514,8 @@ module _ {L : Type 0} (k : Ghosts L) (laws : Laws k) where
       abbrev pub on_asked : (old mid : Air L) (place : ℕ) (i : ReaderState) (stage : Stage Signal) (s : IsoStanding) (o : On old mid place i stage s) → mid.lit ≡ true
           → CommandTurns k card tag old mid place begin i0 commands arrived command o.along.world.given s
       on_asked old mid place i stage s o lit =
-          asked_by old mid place i (card (reached k begin o.frames)) (tag (reached k begin o.frames)) stage o.along o.seen o.seen_is o.images o.along.world.given refl (after_on old mid place i stage s o lit) o.notes o.going s o.stands
+          asked_by old mid place i (card (reached k begin o.frames)) (tag (reached k begin o.frames)) stage o.along o.seen o.seen_is o.images o.along.world.given refl
+          (after_on old mid place i stage s o lit) o.notes o.going s o.stands
 
       abbrev pub lost_asked : (old new : Air L) (place : ℕ) (o : Lost old new place) → CommandTurns k card tag old new place begin i0 commands arrived command o.along.world.given (Broken FieldLost)
       lost_asked old new place o =
@@ -521,7 +541,8 @@ module _ {L : Type 0} (k : Ghosts L) (laws : Laws k) where
           let did : o.along.world.delivered ≡ commands ++ command ∷ [] = once.once ∙ ap (λ (x : Option (List ℕ)). commands ++ delivered_of command x) e.0 in
           let P : ReaderState → CardState → Type 0 = λ x y. InStep x y in
           let Q : CardState → List (List ℕ) → List Signal → Type 0 = IsCut in (
-            asked_by old new place i (card l) (tag l) (Over (Finished r)) o.along o.seen o.seen_is o.images (Some r) e.0 (after_on old new place i (Over (Finished r)) s o lit) o.notes o.going s o.stands,
+            asked_by old new place i (card l) (tag l) (Over (Finished r)) o.along o.seen o.seen_is o.images (Some r) e.0 (after_on old new place i (Over (Finished r)) s o lit) o.notes o.going s
+                o.stands,
             record {
               listener = l;
               selected = o.selected;
@@ -536,7 +557,8 @@ module _ {L : Type 0} (k : Ghosts L) (laws : Laws k) where
           )
 
 -- one command, from the reader's first block to its end
-module _ {L : Type 0} (k : Ghosts L) (laws : Laws k) (card : L → CardState) (tag : L → TagState) (holds : Holds k tag) (old : Air L) (place : ℕ) (i0 : ReaderState) (command : List ℕ) (commands : List (List ℕ)) (arrived : List Signal)
+module _ {L : Type 0} (k : Ghosts L) (laws : Laws k) (card : L → CardState) (tag : L → TagState) (holds : Holds k tag) (old : Air L) (place : ℕ) (i0 : ReaderState) (command : List ℕ)
+    (commands : List (List ℕ)) (arrived : List Signal)
     (t : HasCardTag k card tag old place i0 commands arrived) where
   abbrev pub Here : Air L → ReaderState → Stage Signal → IsoStanding → Type 0
   Here mid i stage s = OnTag k card tag t.listener i0 commands arrived command old mid place i stage s
@@ -559,7 +581,8 @@ module _ {L : Type 0} (k : Ghosts L) (laws : Laws k) (card : L → CardState) (t
         → (let x : ReaderTurn = record { state = i'; does = d } in x) ≡ reader_table i h → Here new i' (stage_of (reader_does d)) (goes_by i' d [])
     next_here h turn i' d e =
         subst (λ (x : ReaderTurn). Here new x.state (stage_of (reader_does x.does)) (goes_by x.state x.does [])) (sym e)
-        (turn_on k laws card tag holds t.listener t.is i0 commands arrived command old mid place i f bytes o far far' new h (quiet_turn k.machine restarts steps mid f far (Some h) new far' quiet_here turn))
+        (turn_on k laws card tag holds t.listener t.is i0 commands arrived command old mid place i f bytes o far far' new h
+        (quiet_turn k.machine restarts steps mid f far (Some h) new far' quiet_here turn))
 
     lit_here : (h : Heard) → TurnIs k.machine restarts steps mid f far (Some h) new far' → new.lit ≡ old.lit → new.lit ≡ true
     lit_here h turn e = e ∙ sym o.lit ∙ turn.lit
@@ -567,15 +590,18 @@ module _ {L : Type 0} (k : Ghosts L) (laws : Laws k) (card : L → CardState) (t
     six_noisy : (h : Heard) → TurnIs k.machine restarts steps mid f far (Some h) new far' → (i' : ReaderState)
         → (let x : ReaderTurn = record { state = i'; does = step.SixBad } in x) ≡ reader_table i h → (zs : List Event) → new.trace ≡ old.trace ++ zs → 0 < noise zs
     six_noisy h turn i' e zs z =
-        noisy k laws card tag holds t.listener t.is i0 commands arrived command old mid place i f bytes o far far' new (Some h) (quiet_turn k.machine restarts steps mid f far (Some h) new far' quiet_here turn)
+        noisy k laws card tag holds t.listener t.is i0 commands arrived command old mid place i f bytes o far far' new (Some h)
+        (quiet_turn k.machine restarts steps mid f far (Some h) new far' quiet_here turn)
         (λ g q. let w : h ≡ heards.Whole g = cc in
-        whole_not_six i g (live k laws card tag holds t.listener t.is i0 commands arrived command old mid place i f bytes o far far' new (Some h) (quiet_turn k.machine restarts steps mid f far (Some h) new far' quiet_here turn))
+        whole_not_six i g (live k laws card tag holds t.listener t.is i0 commands arrived command old mid place i f bytes o far far' new (Some h)
+        (quiet_turn k.machine restarts steps mid f far (Some h) new far' quiet_here turn))
         (ap (λ x. (reader_table i x).does) (sym w) ∙ sym (ap (λ (x : ReaderTurn). x.does) e)))
         zs z
 
     lost_broken : TurnIs k.machine restarts steps mid f far None new far' → (zs : List Event) → new.trace ≡ old.trace ++ zs → 0 < breaks zs
     lost_broken turn zs z =
-        broken k laws card tag holds t.listener t.is i0 commands arrived command old mid place i f bytes o far far' new None (quiet_turn k.machine restarts steps mid f far None new far' quiet_here turn)
+        broken k laws card tag holds t.listener t.is i0 commands arrived command old mid place i f bytes o far far' new None
+        (quiet_turn k.machine restarts steps mid f far None new far' quiet_here turn)
         refl zs z
 
     -- the answer came
@@ -592,8 +618,12 @@ module _ {L : Type 0} (k : Ghosts L) (laws : Laws k) (card : L → CardState) (t
         → (let x : ReaderTurn = record { state = i'; does = step.SixBad } in x) ≡ reader_table i h → EndsBy k card tag old new place t.listener i0 i' commands arrived command (Err ask.SixBad)
     ends_six h turn i' e =
         let n = next_here h turn i' step.SixBad e in
-        let lit = lit_here h turn n.lit in
-        (n.along.world.given, Broken ask.SixBad, on_asked k laws card tag holds t.listener t.is i0 commands arrived command old new place i' (Over SixBad) (Broken ask.SixBad) n lit, (refl, lit, six_noisy h turn i' e n.along.added n.along.events))
+        let lit = lit_here h turn n.lit in (
+          n.along.world.given,
+          Broken ask.SixBad,
+          on_asked k laws card tag holds t.listener t.is i0 commands arrived command old new place i' (Over SixBad) (Broken ask.SixBad) n lit,
+          (refl, lit, six_noisy h turn i' e n.along.added n.along.events),
+        )
 
     pub ends_never : (h : Heard) → TurnIs k.machine restarts steps mid f far (Some h) new far' → (i' : ReaderState)
         → (let x : ReaderTurn = record { state = i'; does = step.Protocol } in x) ≡ reader_table i h → ⊥
@@ -606,8 +636,14 @@ module _ {L : Type 0} (k : Ghosts L) (laws : Laws k) (card : L → CardState) (t
           → EndsBy k card tag old new place t.listener i0 i' commands arrived command (Err ask.FieldLost)
       ends_lost i' (inl d) = inl (sym o.lit ∙ d.0, d.1 ∙ o.dim d.0)
       ends_lost i' (inr turn) =
-          let l = turn_lost k laws card tag holds t.listener t.is i0 commands arrived command old mid place i f bytes o far far' new (quiet_turn k.machine restarts steps mid f far None new far' quiet_here turn) in
-          inr (l.along.world.given, Broken ask.FieldLost, lost_asked k laws card tag holds t.listener t.is i0 commands arrived command old new place l, (refl, l.dark, lost_broken turn l.along.added l.along.events))
+          let l = turn_lost k laws card tag holds t.listener t.is i0 commands arrived command old mid place i f bytes o far far' new
+          (quiet_turn k.machine restarts steps mid f far None new far' quiet_here turn) in
+          inr (
+            l.along.world.given,
+            Broken ask.FieldLost,
+            lost_asked k laws card tag holds t.listener t.is i0 commands arrived command old new place l,
+            (refl, l.dark, lost_broken turn l.along.added l.along.events),
+          )
 
       -- nothing more could be noted
       pub ends_stopped : Transmits k.machine restarts steps stops is_stuck mid f far (Err air.Memory) new far'

@@ -103,7 +103,8 @@ settled_keeps r t Quiet = refl
 settled_keeps r t (Reply a) = refl
 settled_keeps r t (Deliver p) = go (nat_lt 0 t.busy)
   where
-    go : (v : Bool) → backs_of (if v then record t { last = Some (Extend t.times); left = r; unsent = true; due = t.busy } else record t { last = Some (piece t.most t.number r); left = drop t.most r; unsent = nat_lt t.most (length r); due = 0 }) ≡ backs_of t
+    go : (v : Bool) → backs_of (if v then record t { last = Some (Extend t.times); left = r; unsent = true; due = t.busy }
+        else record t { last = Some (piece t.most t.number r); left = drop t.most r; unsent = nat_lt t.most (length r); due = 0 }) ≡ backs_of t
     go true = refl
     go false = refl
 
@@ -111,7 +112,8 @@ step_keeps : (r : List ℕ) (t : CardState) (f : Signal) → IsAskedFrame f → 
 step_keeps r t f a = settled_keeps r (iso_dep.heard t f) (iso_dep.does t f) ∙ table_keeps t f a t.mute refl
 
 -- a tag that heard blocks cuts to the same size as before
-pub reached_cuts : {L : Type 0} (k : Ghosts L) (laws : Laws k) (card : L → CardState) (tag : L → TagState) (holds : Holds k tag) (l : L) (fs : List Signal) → AllByRecursion IsAskedFrame fs → IsCardTag k card tag l
+pub reached_cuts : {L : Type 0} (k : Ghosts L) (laws : Laws k) (card : L → CardState) (tag : L → TagState) (holds : Holds k tag) (l : L) (fs : List Signal) → AllByRecursion IsAskedFrame fs
+    → IsCardTag k card tag l
     → backs_of (card (reached k l fs)) ≡ backs_of (card l)
 reached_cuts k laws card tag holds l [] a c = refl
 reached_cuts k laws card tag holds l (f ∷ fs) a c =

@@ -1,5 +1,6 @@
 -- The reader at the card's answers, and at bad receptions, while an exchange is under way.
-use Rattle.std.proofs.Common.{◌≡◌, ℕ, ◌+◌, ◌-◌, ◌*◌, ◌<◌, ◌≤◌, nat_lt, if◌then◌else◌, Bool, true, false, List, [], ◌++◌, length, take, drop, Option, Some, None, inl, inr, refl, sym, ◌∙◌, ap, subst, arith, take_all}
+use Rattle.std.proofs.Common.{◌≡◌, ℕ, ◌+◌, ◌-◌, ◌*◌, ◌<◌, ◌≤◌, nat_lt, if◌then◌else◌, Bool, true, false, List, [], ◌++◌, length, take, drop, Option, Some, None, inl, inr, refl, sym, ◌∙◌, ap, subst}
+use Rattle.std.proofs.Common.{arith, take_all}
 use Rattle.std.proofs.lemmas.Bool.{lt-ltb, ltb-true}
 use Rattle.nfc_base.specs.Signal.{Signal}
 use Rattle.nfc_base.specs.StopAndWait.{Whole, Damaged, Silent}
@@ -17,7 +18,8 @@ use Rattle.isodep_link.specs.Reader.{ReaderState, ReaderMove, ReaderTurn, Asks, 
 use Rattle.nfc_base.specs.LinkTurns.{heard_of}
 use Rattle.isodep_link.specs.Exchange.{iso_dep, reader_does, InStep}
 use Rattle.isodep_link.proofs.Wire.{reader_heeds, is_piece}
-use Rattle.nfc_base.proofs.Chains.{same, not_lt, le_from_not, pieces_drop, not_refused, Asking, Drawing, Acked, Answered, Extending, Held, of_chain, of_reply, of_time, held_left, held_worse, held_more, longer, time_granted, sent_on, ack_heard, got_on, piece_heard}
+use Rattle.nfc_base.proofs.Chains.{same, not_lt, le_from_not, pieces_drop, not_refused, Asking, Drawing, Acked, Answered, Extending, Held, of_chain, of_reply, of_time, held_left, held_worse}
+use Rattle.nfc_base.proofs.Chains.{held_more, longer, time_granted, sent_on, ack_heard, got_on, piece_heard}
 use Rattle.isodep_link.proofs.Standing.{toggled_not, toggled_small, iso_ends, Ask, asks, draws, draws_again, naks, naks_held, grants, IsLive, Wait, has, misses}
 
 module _ (m k : ℕ) (out : List ℕ) where

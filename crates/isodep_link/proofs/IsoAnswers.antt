@@ -1,5 +1,6 @@
 -- What `ask` of a link to a Type 4 tag answers.
-use Rattle.std.proofs.Common.{◌≡◌, ℕ, ◌+◌, ◌*◌, ◌<◌, ◌≤◌, ◌⊎◌, inl, inr, List, [], ◌∷◌, ◌++◌, length, drop, true, false, Option, Some, None, Result, Ok, Err, IfOk, IfErr, refl, sym, ◌∙◌, ap, subst, arith, append-nil}
+use Rattle.std.proofs.Common.{◌≡◌, ℕ, ◌+◌, ◌*◌, ◌<◌, ◌≤◌, ◌⊎◌, inl, inr, List, [], ◌∷◌, ◌++◌, length, drop, true, false, Option, Some, None, Result, Ok, Err, IfOk, IfErr, refl, sym, ◌∙◌, ap, subst}
+use Rattle.std.proofs.Common.{arith, append-nil}
 use Rattle.std.specs.Prelude.{not}
 use Rattle.std.proofs.lemmas.List.{length-append}
 use Rattle.nfc_base.specs.Signal.{Signal, whole_a}
@@ -32,13 +33,15 @@ use Rattle.nfc_base.proofs.Leading.{leads_again, rises_again}
 use Rattle.isodep_link.proofs.CardTurns.{Holds}
 use Rattle.isodep_link.proofs.CutSizes.{rests_cut, reached_cuts}
 use Rattle.nfc_base.proofs.LinkTurns.{arrived_append}
-use Rattle.isodep_link.proofs.IsoViews.{handed, leads, shown_images, no_more, before, shown_obeyed, shown_held, obeys, shown_noise, shown_step, shown_within, either_store, still_answered, all_answered, answered_before, since_new}
+use Rattle.isodep_link.proofs.IsoViews.{handed, leads, shown_images, no_more, before, shown_obeyed, shown_held, obeys, shown_noise, shown_step, shown_within, either_store, still_answered}
+use Rattle.isodep_link.proofs.IsoViews.{all_answered, answered_before, since_new}
 use Rattle.air_core.proofs.PlainAnswers.{counts_rise, none_left}
 
 counts_stay : (o : Option AskFault) → CountsOn (counts_of o) (counts_of o)
 counts_stay o = record { breaks = omega arith; six_bad = omega arith; odd = omega arith }
 
-module _ {L : Type 0} (k : Ghosts L) (laws : Laws k) (card : L → CardState) (tag : L → TagState) (holds : Holds k tag) (old : Air L) (place start told : ℕ) (i : ReaderState) (last : Option Signal) (over : Option AskFault)
+module _ {L : Type 0} (k : Ghosts L) (laws : Laws k) (card : L → CardState) (tag : L → TagState) (holds : Holds k tag) (old : Air L) (place start told : ℕ) (i : ReaderState) (last : Option Signal)
+    (over : Option AskFault)
     (c : Signal) (begun_ : over ≡ None) (ready : over ≡ None → IsIsoReady k card tag (before k laws card tag holds old place start told i last over)) (may : c ≡ whole_a c.bytes) where
   abbrev was : IsoSeen L
   was = before k laws card tag holds old place start told i last over
@@ -120,7 +123,8 @@ module _ {L : Type 0} (k : Ghosts L) (laws : Laws k) (card : L → CardState) (t
             alone = ready_tag.alone;
             is = ready_tag.is;
             step = ready_tag.step;
-            cut = subst (λ (x : List Signal). Q (commands_of (since k card tag after_ok)) x) fs (subst (λ (x : List (List ℕ)). Q x (arrived (since k card tag was) ++ arrived w.events)) cs ready_tag.cut);
+            cut = subst (λ (x : List Signal). Q (commands_of (since k card tag after_ok)) x) fs (subst (λ (x : List (List ℕ)). Q x (arrived (since k card tag was) ++ arrived w.events)) cs
+                ready_tag.cut);
           };
         }
 
@@ -174,7 +178,8 @@ module _ {L : Type 0} (k : Ghosts L) (laws : Laws k) (card : L → CardState) (t
     pub more : List Signal
     pub once : EachOnce (Some o) (c ∷ []) more
     pub leads_to : Leads (iso_view k card tag was) (iso_view k card tag (after_err new i' o)) more
-    pub images : Follows (iso_view k card tag was).state.store (stores_after k place (world old) (drop (length old.trace) new.trace)) (passed (iso_view k card tag was).step (iso_view k card tag was).state more)
+    pub images : Follows (iso_view k card tag was).state.store (stores_after k place (world old) (drop (length old.trace) new.trace))
+        (passed (iso_view k card tag was).step (iso_view k card tag was).state more)
     pub notes : List Note
     pub going : Going (quiet_air k.machine) (iso_next i (c.bytes ∷ [])) (moment old) (moment new) notes
     pub stands : IsoStandsAt (Some o) new.lit i' (stand (asks i (c.bytes ∷ [])) notes)
@@ -327,7 +332,8 @@ pub record Answers {L : Type 0} (k : Ghosts L) (card : L → CardState) (tag : L
   pub ready : b.over ≡ None → IsIsoReady k card tag b
   pub moves : IsoMoves k card tag a b
 
-module _ {L : Type 0} (k : Ghosts L) (laws : Laws k) (card : L → CardState) (tag : L → TagState) (holds : Holds k tag) (old : Air L) (place start told : ℕ) (i : ReaderState) (last : Option Signal) (over : Option AskFault)
+module _ {L : Type 0} (k : Ghosts L) (laws : Laws k) (card : L → CardState) (tag : L → TagState) (holds : Holds k tag) (old : Air L) (place start told : ℕ) (i : ReaderState) (last : Option Signal)
+    (over : Option AskFault)
     (c : Signal) (ready : over ≡ None → IsIsoReady k card tag (before k laws card tag holds old place start told i last over)) (may : c ≡ whole_a c.bytes) (q : IsoSeen L) where
   abbrev from : IsoSeen L
   from = before k laws card tag holds old place start told i last over

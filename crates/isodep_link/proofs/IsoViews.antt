@@ -1,5 +1,6 @@
 -- What a link to a Type 4 tag shows once a command was asked.
-use Rattle.std.proofs.Common.{◌≡◌, ℕ, ◌+◌, ◌-◌, ◌*◌, ◌/◌, ◌≤◌, ◌⊎◌, inl, inr, List, [], ◌∷◌, ◌++◌, length, take, drop, map, true, false, Option, Some, None, Ok, refl, sym, ◌∙◌, ap, subst, arith, take_all}
+use Rattle.std.proofs.Common.{◌≡◌, ℕ, ◌+◌, ◌-◌, ◌*◌, ◌/◌, ◌≤◌, ◌⊎◌, inl, inr, List, [], ◌∷◌, ◌++◌, length, take, drop, map, true, false, Option, Some, None, Ok, refl, sym, ◌∙◌, ap, subst, arith}
+use Rattle.std.proofs.Common.{take_all}
 use Rattle.std.proofs.lemmas.List.{drop-append-le, take-append-le, map-append}
 use Rattle.std.specs.List.{AllByRecursion}
 use Rattle.nfc_base.specs.Signal.{Signal, whole_a}
@@ -54,7 +55,8 @@ given_pieces n step s held c (Some r) h = let P : Option Signal → Type 0 = λ 
 more_back : (n x p q b : ℕ) → n ≤ 2 * (x + p - 1) + 4 * b → p ≤ q → n ≤ 2 * (x + q - 1) + 0 + 4 * b
 more_back n x p q b h l = omega (arith, h, l)
 
-module _ {L : Type 0} (k : Ghosts L) (laws : Laws k) (card : L → CardState) (tag : L → TagState) (holds : Holds k tag) (old : Air L) (place start told : ℕ) (i : ReaderState) (last : Option Signal) (over : Option AskFault) where
+module _ {L : Type 0} (k : Ghosts L) (laws : Laws k) (card : L → CardState) (tag : L → TagState) (holds : Holds k tag) (old : Air L) (place start told : ℕ) (i : ReaderState) (last : Option Signal)
+    (over : Option AskFault) where
   abbrev pub before : IsoSeen L
   before = record { air = old; place = place; start = start; told = told; reader = i; last = last; over = over }
 
@@ -176,7 +178,8 @@ module _ {L : Type 0} (k : Ghosts L) (laws : Laws k) (card : L → CardState) (t
       shown_images =
           let now_is : (iso_view k card tag before).state.store ≡ k.store l = ap (λ (t : TagState). t.store) shown_state ∙ holds l in
           let es : drop (length old.trace) new.trace ≡ w.events = ap (drop (length old.trace)) w.trace ∙ drop-append_seam old.trace w.events in
-          let P : List Event → Type 0 = λ xs. Follows (iso_view k card tag before).state.store (stores_after k place (world old) xs) (passed (iso_view k card tag before).step (iso_view k card tag before).state (handed c g)) in
+          let P : List Event → Type 0 = λ xs. Follows (iso_view k card tag before).state.store (stores_after k place (world old) xs)
+          (passed (iso_view k card tag before).step (iso_view k card tag before).state (handed c g)) in
           let Q : List ℕ → Type 0 = λ z. Follows z (stores_after k place (world old) w.events) (passed (iso_view k card tag before).step (iso_view k card tag before).state (handed c g)) in
           let R : TagState → Type 0 = λ z. Follows (k.store l) (stores_after k place (world old) w.events) (passed (iso_view k card tag before).step z (handed c g)) in
           let S : (TagState → Signal → TagStep) → Type 0 = λ z. Follows (k.store l) (stores_after k place (world old) w.events) (passed z (tag l) (handed c g)) in
@@ -201,7 +204,8 @@ module _ {L : Type 0} (k : Ghosts L) (laws : Laws k) (card : L → CardState) (t
           let P : TagStep → Type 0 = λ x. pieces_back (blocks_back (card l)) g ≤ answer_pieces (backs_of (card l)) x.answer in
           let Q : Backs → Type 0 = λ n. pieces_back (blocks_back (card l)) g ≤ answer_pieces n ((iso_view k card tag before).step (iso_view k card tag before).state c).answer in
           let back : Q (card_backs k card tag before) =
-          subst Q (sym (was (λ (x : L). backs_of (card x)) (record { most = 0; busy = 0 }))) (subst P (sym shown_step) (given_pieces (backs_of (card l)) (k.commands l) (tag l) w.held c.bytes g w.given_by)) in
+          subst Q (sym (was (λ (x : L). backs_of (card x)) (record { most = 0; busy = 0 }))) (subst P (sym shown_step)
+          (given_pieces (backs_of (card l)) (k.commands l) (tag l) w.held c.bytes g w.given_by)) in
           let R : List Event → Type 0 = λ xs. length xs ≤ 2 * (pieces i.core.most c.bytes + pieces_back (blocks_back (card l)) g - 1) + 4 * bad_receptions xs in
           more_back _ _ _ _ _ (subst R es w.within) back
 

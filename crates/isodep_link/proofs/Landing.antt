@@ -1,6 +1,7 @@
 -- The card at the reader's frames, while an exchange is under way: it answers what it has, takes the next piece, or obeys the
 -- whole command for the first time.
-use Rattle.std.proofs.Common.{◌≡◌, ℕ, ◌+◌, ◌-◌, ◌*◌, ◌<◌, ◌≤◌, nat_lt, Bool, true, false, List, [], ◌∷◌, ◌++◌, length, take, drop, Option, Some, None, inl, inr, refl, sym, ◌∙◌, ap, subst, arith, take_all}
+use Rattle.std.proofs.Common.{◌≡◌, ℕ, ◌+◌, ◌-◌, ◌*◌, ◌<◌, ◌≤◌, nat_lt, Bool, true, false, List, [], ◌∷◌, ◌++◌, length, take, drop, Option, Some, None, inl, inr, refl, sym, ◌∙◌, ap, subst, arith}
+use Rattle.std.proofs.Common.{take_all}
 use Rattle.std.proofs.lemmas.Bool.{lt-ltb, ltb-true}
 use Rattle.nfc_base.specs.Signal.{Signal}
 use Rattle.nfc_base.specs.StopAndWait.{Quiet}
@@ -16,7 +17,8 @@ use Rattle.isodep_link.specs.Reader.{ReaderState, request, asked}
 use Rattle.isodep_link.specs.Commands.{taken}
 use Rattle.isodep_link.specs.Exchange.{iso_dep, card_does, IsCut}
 use Rattle.isodep_link.proofs.Wire.{card_heeds, is_piece, cut_of, cuts_on, cuts_same}
-use Rattle.nfc_base.proofs.Chains.{same, not_lt, le_from_not, chain_fits, Asking, Drawing, Acked, Answered, Extending, of_chain, of_reply, of_time, last_of, piece_taken, time_asked, first_sent, reply_drawn, time_again, time_over, more, Fits}
+use Rattle.nfc_base.proofs.Chains.{same, not_lt, le_from_not, chain_fits, Asking, Drawing, Acked, Answered, Extending, of_chain, of_reply, of_time, last_of, piece_taken, time_asked, first_sent}
+use Rattle.nfc_base.proofs.Chains.{reply_drawn, time_again, time_over, more, Fits}
 use Rattle.isodep_link.proofs.Standing.{not_toggled, toggled_twice, iso_ends, Ask, asks, draws, draws_again, naks, naks_held, grants, IsLive, Wait, has, misses}
 
 module _ (m k : ℕ) (out : List ℕ) where

@@ -58,6 +58,7 @@ module _ (t : CardState) where
   replied_made r = by_busy (nat_lt 0 t.busy)
     where
       by_busy : (v : Bool)
-          → darkened (if v then record t { last = Some (Extend t.times); left = r; unsent = true; due = t.busy } else record t { last = Some (piece t.most t.number r); left = drop t.most r; unsent = nat_lt t.most (length r); due = 0 }) ≡ darkened t
+          → darkened (if v then record t { last = Some (Extend t.times); left = r; unsent = true; due = t.busy }
+          else record t { last = Some (piece t.most t.number r); left = drop t.most r; unsent = nat_lt t.most (length r); due = 0 }) ≡ darkened t
       by_busy true = refl
       by_busy false = refl

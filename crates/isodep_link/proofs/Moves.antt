@@ -13,7 +13,8 @@ use Rattle.isodep_link.specs.declared.reader.Phase.TheVariants.{Asked, Nacked, F
 use Rattle.isodep_link.specs.declared.reader.ReaderStep.TheVariants as steps
 use Rattle.isodep_link.specs.Blocks.{toggled, spelled_block}
 use Rattle.isodep_link.specs.Sizes.{limit}
-use Rattle.isodep_link.specs.Reader.{ReaderState, ReaderMove, ReaderTurn, ReaderDoes, Asks, Gives, GivesUp, Refuses, Reception, Hears, Odd, Bad, FaultsStay, sends, refuses, after_bad, bad, received, acked, missed, brought, answered, waited, in_phase, block_next, framed, framed_next, whole_reception, reception, reader_table}
+use Rattle.isodep_link.specs.Reader.{ReaderState, ReaderMove, ReaderTurn, ReaderDoes, Asks, Gives, GivesUp, Refuses, Reception, Hears, Odd, Bad, FaultsStay, sends, refuses, after_bad, bad, received}
+use Rattle.isodep_link.specs.Reader.{acked, missed, brought, answered, waited, in_phase, block_next, framed, framed_next, whole_reception, reception, reader_table}
 
 abbrev pub after_nak : Phase → ℕ
 after_nak Nacked = 1

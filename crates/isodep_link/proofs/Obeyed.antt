@@ -34,7 +34,19 @@ keeps m k out = record {
 pub asking_first : (i : ReaderState) (t : CardState) (command : List ℕ) → length command ≤ limit → InStep i t → Asking iso_ends t.most t.busy command (begun i command).core t None
 asking_first i t command short s =
     record {
-      bounds = record { heeds = s.heeds; short = short; some = s.asks.0; fits = s.asks.1; sizes = refl; some_back = s.answers.0; fits_back = s.answers.1; asks = refl; few = s.busy; long = s.times.0; longest = s.times.1 };
+      bounds = record {
+        heeds = s.heeds;
+        short = short;
+        some = s.asks.0;
+        fits = s.asks.1;
+        sizes = refl;
+        some_back = s.answers.0;
+        fits_back = s.answers.1;
+        asks = refl;
+        few = s.busy;
+        long = s.times.0;
+        longest = s.times.1;
+      };
       number = s.number;
       plain = refl;
       none_yet = refl;

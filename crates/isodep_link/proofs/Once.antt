@@ -5,7 +5,8 @@ use Rattle.isodep_link.specs.declared.block.Block.TheVariants.{Info, Ack, Nak, D
 use Rattle.isodep_link.specs.Blocks.{piece, toggled, spelled_block}
 use Rattle.isodep_link.specs.Sizes.{limit, piece_size, rats_code, ats_frame}
 use Rattle.isodep_link.specs.declared.card.CardStep.TheVariants as steps
-use Rattle.isodep_link.specs.Card.{CardState, CardMove, CardTurn, Does, Stays, Answers, Delivers, Sleeps, stays, again, grown, drawn, block_table, framed, framed_does, obeyed, activated, heeded, card_table, DeliversAnew}
+use Rattle.isodep_link.specs.Card.{CardState, CardMove, CardTurn, Does, Stays, Answers, Delivers, Sleeps, stays, again, grown, drawn, block_table, framed, framed_does, obeyed, activated, heeded}
+use Rattle.isodep_link.specs.Card.{card_table, DeliversAnew}
 
 -- a move that delivers has toggled the number
 abbrev MovesAnew : CardState → CardMove → Type 0
@@ -39,7 +40,11 @@ block_anew t (Nak n) = nak_never t (n == t.number)
 block_anew t Deselect = λ xs e. cc
 block_anew t (Extend times) = drawn_by t (if nat_lt 0 t.due then times == t.times else false) _ (granted_never (nat_lt 1 t.due))
   where
-    granted_never : (v : Bool) → MovesAnew t (if v then record { state = record t { due = t.due - 1 }; does = Answers (Extend t.times) } else record { state = record t { due = 0; last = Some (piece t.most t.number t.left); left = drop t.most t.left; unsent = nat_lt t.most (length t.left) }; does = Answers (piece t.most t.number t.left) })
+    granted_never : (v : Bool) → MovesAnew t (if v then record { state = record t { due = t.due - 1 }; does = Answers (Extend t.times) }
+        else record {
+          state = record t { due = 0; last = Some (piece t.most t.number t.left); left = drop t.most t.left; unsent = nat_lt t.most (length t.left) };
+          does = Answers (piece t.most t.number t.left);
+        })
     granted_never true = λ xs e. cc
     granted_never false = λ xs e. cc
 
@@ -60,7 +65,8 @@ obeyed_anew : (t : CardState) (b : Option Block) (xs : List ℕ) → (obeyed t b
 obeyed_anew t None xs e = framed_anew t (stays t) (stays_anew t) xs e
 obeyed_anew t (Some b) xs e = framed_anew t (block_table t b) (block_anew t b) xs e
 
-activated_anew : (t : CardState) (code : ℕ) (begun : Bool) (xs : List ℕ) (m : CardTurn) → m ≡ (if begun then framed (stays t) else record { state = record t { most = piece_size code }; does = steps.Reply (ats_frame t.code) })
+activated_anew : (t : CardState) (code : ℕ) (begun : Bool) (xs : List ℕ) (m : CardTurn) → m
+    ≡ (if begun then framed (stays t) else record { state = record t { most = piece_size code }; does = steps.Reply (ats_frame t.code) })
     → m.does ≡ steps.Deliver (record { items = xs }) → m.state.number ≡ toggled t.number
 activated_anew t code true xs m q e = absurd cc
 activated_anew t code false xs m q e = absurd cc
@@ -73,7 +79,8 @@ heeded_anew t None b xs e = obeyed_anew t b xs e
 pub delivers_anew : DeliversAnew
 delivers_anew t f xs e = by_mute t.mute (card_table t f) refl e
   where
-    by_mute : (v : Bool) (m : CardTurn) → m ≡ (if v then framed (stays t) else heeded t (rats_code f) (spelled_block f)) → m.does ≡ steps.Deliver (record { items = xs }) → m.state.number ≡ toggled t.number
+    by_mute : (v : Bool) (m : CardTurn) → m ≡ (if v then framed (stays t) else heeded t (rats_code f) (spelled_block f)) → m.does ≡ steps.Deliver (record { items = xs })
+        → m.state.number ≡ toggled t.number
     by_mute true m q d = absurd cc
     by_mute false m q d =
         ap (λ (z : CardTurn). z.state.number) q ∙ heeded_anew t (rats_code f) (spelled_block f) xs (ap (λ (z : CardTurn). z.does) (sym q) ∙ d)

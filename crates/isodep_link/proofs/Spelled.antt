@@ -1,11 +1,13 @@
 -- What a block is written as spells a block, and each frame spells the block that is read from it.
-use Rattle.std.proofs.Common.{◌≡◌, ℕ, ◌+◌, ◌-◌, ◌%◌, ◌<◌, ◌≤◌, ◌==◌, nat_lt, if◌then◌else◌, zero, suc, List, [], ◌∷◌, length, slice_index, Bool, true, false, Some, None, refl, sym, ◌∙◌, ap, subst, arith}
+use Rattle.std.proofs.Common.{◌≡◌, ℕ, ◌+◌, ◌-◌, ◌%◌, ◌<◌, ◌≤◌, ◌==◌, nat_lt, if◌then◌else◌, zero, suc, List, [], ◌∷◌, length, slice_index, Bool, true, false, Some, None, refl, sym, ◌∙◌, ap, subst}
+use Rattle.std.proofs.Common.{arith}
 use Rattle.nfc_base.specs.Signal.{Signal, signal, whole_a}
 use Rattle.nfc_base.specs.declared.frame.Tech.{Tech}
 use Rattle.nfc_base.specs.declared.frame.Tech.TheVariants.{A, V, F}
 use Rattle.isodep_link.specs.declared.block.Block.{Block}
 use Rattle.isodep_link.specs.declared.block.Block.TheVariants.{Info, Ack, Nak, Deselect, Extend}
-use Rattle.isodep_link.specs.Blocks.{ReadsBlocks, SpellsOne, info_sort, chained_sort, ack_sort, nak_sort, deselect_byte, extend_byte, info_block, short_block, long_block, sort_block, block_of, pcb, block_frame, IsBlock, BlockSpelling, IsSpelled, spelled_block}
+use Rattle.isodep_link.specs.Blocks.{ReadsBlocks, SpellsOne, info_sort, chained_sort, ack_sort, nak_sort, deselect_byte, extend_byte, info_block, short_block, long_block, sort_block, block_of, pcb}
+use Rattle.isodep_link.specs.Blocks.{block_frame, IsBlock, BlockSpelling, IsSpelled, spelled_block}
 
 small : (n : ℕ) → n % 2 < 2
 small n = omega arith
@@ -86,7 +88,8 @@ short_spells s n false false true h a k d b e =
     subst P (let q : Deselect ≡ b = cc in q) (record { range = tt; frame = ap (λ x. whole_a (x ∷ [])) is })
 short_spells s n false false false h a k d b e = cc
 
-long_spells : (s n times : ℕ) (extend : Bool) → (s + n == extend_byte) ≡ extend → (b : Block) → (if extend then Some (Extend times) else None) ≡ Some b → BlockSpelling b (whole_a ((s + n) ∷ times ∷ []))
+long_spells : (s n times : ℕ) (extend : Bool) → (s + n == extend_byte) ≡ extend → (b : Block) → (if extend then Some (Extend times) else None) ≡ Some b
+    → BlockSpelling b (whole_a ((s + n) ∷ times ∷ []))
 long_spells s n times true d b e =
     let P : Block → Type 0 = λ x. BlockSpelling x (whole_a ((s + n) ∷ times ∷ [])) in
     let is : s + n ≡ extend_byte = grind arith in
@@ -107,7 +110,9 @@ one_spells s n (x ∷ xs) true h l b e = absurd (let q : suc (suc (length xs)) �
 one_spells s n xs false h l b e = two_spells s n xs (length ((s + n) ∷ xs) == 2) refl b e
 
 sort_spells : (s n : ℕ) (xs : List ℕ) (info chained : Bool) → n < 2 → length xs ≤ 287 → (s == info_sort) ≡ info → (s == chained_sort) ≡ chained
-    → (b : Block) → (if info then Some (info_block false n xs) else (if chained then Some (info_block true n xs) else (if length ((s + n) ∷ xs) == 1 then short_block s n else (if length ((s + n) ∷ xs) == 2 then long_block s n (slice_index ((s + n) ∷ xs) 1) else None)))) ≡ Some b
+    → (b : Block)
+    → (if info then Some (info_block false n xs) else (if chained then Some (info_block true n xs)
+    else (if length ((s + n) ∷ xs) == 1 then short_block s n else (if length ((s + n) ∷ xs) == 2 then long_block s n (slice_index ((s + n) ∷ xs) 1) else None)))) ≡ Some b
     → BlockSpelling b (whole_a ((s + n) ∷ xs))
 sort_spells s n xs true chained h l i k b e =
     let P : Block → Type 0 = λ x. BlockSpelling x (whole_a ((s + n) ∷ xs)) in
@@ -134,7 +139,8 @@ bytes_spell : (bytes : List ℕ) → length bytes ≤ 288 → (b : Block) → bl
 bytes_spell [] l b e = cc
 bytes_spell (x ∷ xs) l b e = first_spells x xs (omega (arith, l)) b (ap (λ v. if v then sort_block (x - x % 2) (x % 2) (x ∷ xs) else None) (sym (held xs)) ∙ e)
 
-whole_spells : (bytes : List ℕ) (tail : ℕ) (whole : Bool) → (tail == 0) ≡ whole → length bytes ≤ 288 → (b : Block) → (if whole then block_of bytes else None) ≡ Some b → BlockSpelling b (signal A bytes tail)
+whole_spells : (bytes : List ℕ) (tail : ℕ) (whole : Bool) → (tail == 0) ≡ whole → length bytes ≤ 288 → (b : Block) → (if whole then block_of bytes else None) ≡ Some b
+    → BlockSpelling b (signal A bytes tail)
 whole_spells bytes tail true w l b e = subst (λ t. BlockSpelling b (signal A bytes t)) (let n : 0 ≡ tail = grind arith in n) (bytes_spell bytes l b e)
 whole_spells bytes tail false w l b e = cc
 

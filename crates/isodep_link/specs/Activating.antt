@@ -1,5 +1,6 @@
 -- How a reader activates a Type 4 tag by RATS (ISO/IEC 14443-4; NFC Forum Digital Protocol).
-use Rattle.std.specs.Prelude.{◌≡◌, ◌⊎◌, ℕ, ◌%◌, ◌≤◌, ◌==◌, ◌&&◌, nat_lt, List, [], ◌∷◌, ◌++◌, length, slice_index, true, false, if◌then◌else◌, Option, Some, None, Result, Ok, Err}
+use Rattle.std.specs.Prelude.{◌≡◌, ◌⊎◌, ℕ, ◌%◌, ◌≤◌, ◌==◌, ◌&&◌, nat_lt, List, [], ◌∷◌, ◌++◌, length, slice_index, true}
+use Rattle.std.specs.Prelude.{false, if◌then◌else◌, Option, Some, None, Result, Ok, Err}
 use Rattle.nfc_base.specs.declared.frame.Tech.TheVariants.{A}
 use Rattle.nfc_base.specs.Signal.{Signal, whole_a, is_whole_a}
 use Rattle.nfc_base.specs.Headed.{rats_byte}
@@ -62,7 +63,15 @@ TellsCode ns code = (before : List Note) × (f : Signal) × (ns ≡ before ++ Go
 
 -- the link to the tag at a place that told this size code, before anything is asked
 abbrev pub first_link : {L : Type 0} → Air L → ℕ → ℕ → IsoSeen L
-first_link air place code = record { air = air; place = place; start = length air.trace; told = length air.trace; reader = waiting code; last = None; over = None }
+first_link air place code = record {
+  air = air;
+  place = place;
+  start = length air.trace;
+  told = length air.trace;
+  reader = waiting code;
+  last = None;
+  over = None;
+}
 
 -- RATS was answered by what tells a size code: this is a link that cuts to it, and of which nothing was asked yet.
 pub record Opens {L : Type 0} (m : Machine L) (old : Air L) (place : ℕ) (p : IsoSeen L) : Type 0 where
@@ -71,8 +80,8 @@ pub record Opens {L : Type 0} (m : Machine L) (old : Air L) (place : ℕ) (p : I
   pub first : p ≡ first_link p.air place code
 
 module _ {L : Type 0} (k : Ghosts L) (card : L → CardState) (tag : L → TagState) where
-  -- At RATS a listener hands nothing over, answers ATS of its card's size code and stays selected; it is then a Type 4 tag whose
-  -- card's end, made like this, was activated, with this store, and nothing is selected of it.
+  -- At RATS a listener hands nothing over, answers ATS of its card's size code and stays selected; it is then a Type 4
+  -- tag whose card's end, made like this, was activated, with this store, and nothing is selected of it.
   pub record StepsByRats (l : L) (made : CardState) (store : List ℕ) : Type 0 where
     pub quiet : k.machine.handed l rats ≡ Untouched
     pub answer : k.machine.answer l rats None ≡ Some (ats_frame made.code)
@@ -95,8 +104,8 @@ module _ {L : Type 0} (k : Ghosts L) (card : L → CardState) (tag : L → TagSt
     pub alone : IsAlone k (k.identifier listener) air.listeners place listener
     pub takes : TakesRats listener
 
-  -- At this place of a field a Type 4 tag stands that was activated, in step with a reader that cuts to the tag's own size code, and
-  -- nothing is selected of it.
+  -- At this place of a field a Type 4 tag stands that was activated, in step with a reader that cuts to the tag's own
+  -- size code, and nothing is selected of it.
   pub record IsActivated (air : Air L) (place : ℕ) (i : ReaderState) : Type 0 where
     pub has : HasCardTag k card tag air place i [] []
     pub own : i.core.most ≡ piece_size (card has.listener).code
@@ -111,8 +120,10 @@ module _ {L : Type 0} (k : Ghosts L) (card : L → CardState) (tag : L → TagSt
   -- how the wait of RATS ends
   abbrev pub RatsEnds : Air L → Air L → ℕ → Result ℕ AskFault → Type 0
   RatsEnds old new place (Ok code) =
-      (sent : RatsSent old new (Asking 0 [])) × (new.lit ≡ true) × IsActivated new place (waiting code) × TellsCode sent.notes code
-  RatsEnds old new place (Err FieldLost) = ((old.lit ≡ false) × (new ≡ old)) ⊎ (RatsSent old new (Broken FieldLost (rats ∷ [])) × (new.lit ≡ false))
+      (sent : RatsSent old new (Asking 0 [])) × (new.lit ≡ true) × IsActivated new place (waiting code)
+      × TellsCode sent.notes code
+  RatsEnds old new place (Err FieldLost) = ((old.lit ≡ false) × (new ≡ old))
+      ⊎ (RatsSent old new (Broken FieldLost (rats ∷ [])) × (new.lit ≡ false))
   RatsEnds old new place (Err SixBad) = RatsSent old new (Broken SixBad (rats ∷ []))
   RatsEnds old new place (Err Memory) = (bad : ℕ) × RatsSent old new (Asking bad (rats ∷ []))
   RatsEnds old new place (Err Protocol) = ⊥
@@ -121,8 +132,8 @@ module _ {L : Type 0} (k : Ghosts L) (card : L → CardState) (tag : L → TagSt
   abbrev pub Activates : Air L → Air L → ℕ → Result ℕ AskFault → Type 0
   Activates old new place result = HasFreshTag old place → RatsEnds old new place result
 
-  -- From one moment on RATS was sent again and again, up to the answer of the tag, which told a size code: the tag was activated,
-  -- and this is a link to it that is ready for commands.
+  -- From one moment on RATS was sent again and again, up to the answer of the tag, which told a size code: the tag was
+  -- activated, and this is a link to it that is ready for commands.
   pub record IsActivatedLink (old : Air L) (p : IsoSeen L) : Type 0 where
     pub code : ℕ
     pub sent : RatsSent old p.air (Asking 0 [])

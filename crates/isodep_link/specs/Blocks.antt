@@ -1,12 +1,13 @@
--- The blocks of ISO-DEP and how they stand in frames (ISO/IEC 14443-4; NFC Forum Digital Protocol): a block, a printer of
--- its bytes, and a fact that says which blocks are in range.
-use Rattle.std.specs.Prelude.{◌↔◌, ◌≡◌, ℕ, ◌+◌, ◌-◌, ◌%◌, ◌<◌, ◌≤◌, ◌==◌, nat_lt, List, [], ◌∷◌, length, take, drop, slice_index, Bool, true, false, if◌then◌else◌, Option, Some, None}
+-- The blocks of ISO-DEP and how they stand in frames (ISO/IEC 14443-4; NFC Forum Digital Protocol): a block, a printer
+-- of its bytes, and a fact that says which blocks are in range.
+use Rattle.std.specs.Prelude.{◌↔◌, ◌≡◌, ℕ, ◌+◌, ◌-◌, ◌%◌, ◌<◌, ◌≤◌, ◌==◌, nat_lt, List, [], ◌∷◌, length, take, drop}
+use Rattle.std.specs.Prelude.{slice_index, Bool, true, false, if◌then◌else◌, Option, Some, None}
 use Rattle.nfc_base.specs.Signal.{Signal, whole_a, is_whole_a}
 use Rattle.isodep_link.specs.declared.block.Block.{Block}
 use Rattle.isodep_link.specs.declared.block.Block.TheVariants.{Info, Ack, Nak, Deselect, Extend}
 
--- the control bytes of an I-block, of one behind which the chain goes on, of R(ACK), R(NAK), S(DESELECT) and S(WTX), each
--- without the block number, which is bit 0
+-- the control bytes of an I-block, of one behind which the chain goes on, of R(ACK), R(NAK), S(DESELECT) and S(WTX),
+-- each without the block number, which is bit 0
 abbrev pub info_sort : ℕ
 info_sort = 0x02
 
@@ -93,7 +94,8 @@ abbrev pub number_of : List ℕ → ℕ
 number_of bytes = slice_index bytes 0 % modulus
 
 abbrev pub block_of : List ℕ → Option Block
-block_of bytes = if nat_lt 0 (length bytes) then sort_block (slice_index bytes 0 - number_of bytes) (number_of bytes) bytes else None
+block_of bytes = if nat_lt 0 (length bytes) then sort_block (slice_index bytes 0 - number_of bytes) (number_of bytes)
+    bytes else None
 
 -- the block that a frame spells, none where it spells none
 abbrev pub spelled_block : Signal → Option Block

@@ -1,6 +1,7 @@
--- The card's end of ISO-DEP (ISO/IEC 14443-4; NFC Forum Digital Protocol): what it does at each frame. Its silence after a
--- chain above 264 bytes is this project's own.
-use Rattle.std.specs.Prelude.{◌≡◌, ℕ, ◌-◌, ◌⊎◌, ◌==◌, nat_lt, Bool, true, false, List, [], ◌++◌, length, drop, Option, Some, None, if◌then◌else◌}
+-- The card's end of ISO-DEP (ISO/IEC 14443-4; NFC Forum Digital Protocol): what it does at each frame. Its silence
+-- after a chain above 264 bytes is this project's own.
+use Rattle.std.specs.Prelude.{◌≡◌, ℕ, ◌-◌, ◌⊎◌, ◌==◌, nat_lt, Bool, true, false, List, [], ◌++◌, length, drop, Option}
+use Rattle.std.specs.Prelude.{Some, None, if◌then◌else◌}
 use Rattle.nfc_base.specs.Signal.{Signal}
 use Rattle.isodep_link.specs.declared.block.Block.{Block}
 use Rattle.isodep_link.specs.declared.block.Block.TheVariants.{Info, Ack, Nak, Deselect, Extend}
@@ -12,9 +13,9 @@ use Rattle.isodep_link.specs.Blocks.{toggled, piece, block_frame, spelled_block,
 use Rattle.isodep_link.specs.Sizes.{piece_size, least_code, limit, rats_code, ats_frame, IsAts}
 
 -- A card: its own size code, the most content of a block that the reader takes, its number, the last block that it sent
--- other than an answer to R(NAK) with another number, the chain so far, the bytes of its answer that aren't sent, whether
--- a piece of it isn't, which an empty answer has too, whether an I-block was heard, and whether a chain grew too long; how often it asks for more time before an answer, and by which value; how
--- often it is still to be granted.
+-- other than an answer to R(NAK) with another number, the chain so far, the bytes of its answer that aren't sent,
+-- whether a piece of it isn't, which an empty answer has too, whether an I-block was heard, and whether a chain grew
+-- too long; how often it asks for more time before an answer, and by which value; how often it is still to be granted.
 pub record CardState : Type 0 where
   pub code : ℕ
   pub most : ℕ
@@ -53,18 +54,29 @@ abbrev pub again : CardState → Option Block → CardMove
 again t None = stays t
 again t (Some b) = record { state = t; does = Answers b }
 
--- an I-block was taken, with which the chain is xs: R(ACK) where it goes on, else the command is delivered; no more time is due
+-- an I-block was taken, with which the chain is xs: R(ACK) where it goes on, else the command is delivered; no more
+-- time is due
 abbrev pub grown : CardState → Bool → List ℕ → CardMove
 grown t true xs =
     record {
-      state = record t { number = toggled t.number; last = Some (Ack (toggled t.number)); chain = xs; begun = true; due = 0 };
+      state = record t {
+        number = toggled t.number;
+        last = Some (Ack (toggled t.number));
+        chain = xs;
+        begun = true;
+        due = 0;
+      };
       does = Answers (Ack (toggled t.number));
     }
-grown t false xs = record { state = record t { number = toggled t.number; chain = []; begun = true; due = 0 }; does = Delivers xs }
+grown t false xs = record {
+  state = record t { number = toggled t.number; chain = []; begun = true; due = 0 };
+  does = Delivers xs;
+}
 
 -- an I-block, with which the chain is xs
 abbrev pub gathered : CardState → Bool → List ℕ → CardMove
-gathered t more xs = if nat_lt limit (length xs) then stays (record t { begun = true; mute = true }) else grown t more xs
+gathered t more xs = if nat_lt limit (length xs) then stays (record t { begun = true; mute = true })
+    else grown t more xs
 
 -- the next piece of the answer, unless more time is due
 abbrev pub drawn : CardState → CardMove
@@ -120,7 +132,10 @@ framed m = record { state = m.state; does = framed_does m.does }
 -- RATS is answered by ATS until an I-block was heard.
 abbrev pub activated : CardState → ℕ → CardTurn
 activated t code =
-    if t.begun then framed (stays t) else record { state = record t { most = piece_size code }; does = steps.Reply (ats_frame t.code) }
+    if t.begun then framed (stays t) else record {
+      state = record t { most = piece_size code };
+      does = steps.Reply (ats_frame t.code);
+    }
 
 abbrev pub obeyed : CardState → Option Block → CardTurn
 obeyed t None = framed (stays t)
@@ -135,12 +150,18 @@ heeded t None b = obeyed t b
 abbrev pub card_table : CardState → Signal → CardTurn
 card_table t f = if t.mute then framed (stays t) else heeded t (rats_code f) (spelled_block f)
 
--- The card once its owner answered what was delivered: it asks for more time first, where it does so, else sends the first piece.
+-- The card once its owner answered what was delivered: it asks for more time first, where it does so, else sends the
+-- first piece.
 abbrev pub replied : CardState → List ℕ → CardState
 replied t r =
     if nat_lt 0 t.busy
     then record t { last = Some (Extend t.times); left = r; unsent = true; due = t.busy }
-    else record t { last = Some (piece t.most t.number r); left = drop t.most r; unsent = nat_lt t.most (length r); due = 0 }
+    else record t {
+      last = Some (piece t.most t.number r);
+      left = drop t.most r;
+      unsent = nat_lt t.most (length r);
+      due = 0;
+    }
 
 abbrev pub reply_block : CardState → List ℕ → Block
 reply_block t r = if nat_lt 0 t.busy then Extend t.times else piece t.most t.number r
@@ -187,4 +208,5 @@ IsSaid code (steps.Asleep f) = IsSpelled f
 
 -- Where a card delivers a command its number toggles: nothing that asks for a block again delivers.
 abbrev pub DeliversAnew : Type 0
-DeliversAnew = (t : CardState) (f : Signal) (xs : List ℕ) → (card_table t f).does ≡ steps.Deliver (record { items = xs }) → (card_table t f).state.number ≡ toggled t.number
+DeliversAnew = (t : CardState) (f : Signal) (xs : List ℕ)
+    → (card_table t f).does ≡ steps.Deliver (record { items = xs }) → (card_table t f).state.number ≡ toggled t.number

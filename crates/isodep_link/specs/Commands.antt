@@ -3,7 +3,8 @@
 use Rattle.std.specs.Prelude.{◌≡◌, ℕ, Bool, true, false, List, [], ◌∷◌, ◌++◌, if◌then◌else◌}
 use Rattle.isodep_link.specs.declared.block.Block.{Block}
 use Rattle.isodep_link.specs.declared.block.Block.TheVariants.{Info, Ack, Nak, Deselect, Extend}
-use Rattle.isodep_link.specs.Card.{darkened, CardState, CardMove, Does, Stays, Answers, Delivers, Sleeps, stays, block_table, replied}
+use Rattle.isodep_link.specs.Card.{darkened, CardState, CardMove, Does, Stays, Answers, Delivers, Sleeps, stays}
+use Rattle.isodep_link.specs.Card.{block_table, replied}
 
 -- the chain so far, and the whole commands before it
 pub record Cut : Type 0 where
@@ -59,9 +60,11 @@ abbrev pub obeying : (List ℕ → List ℕ) → Obeying → List Block → Obey
 obeying far o [] = o
 obeying far o (b ∷ bs) = obeying far (moved far o (heard_by o.state.mute o.state b)) bs
 
--- What a card delivers that heard nothing since the dark are the commands of the blocks that it hears, each once and in order, unless a
--- chain grows too long: however often it asks for more time before an answer, and whatever its owner answers.
+-- What a card delivers that heard nothing since the dark are the commands of the blocks that it hears, each once and in
+-- order, unless a chain grows too long: however often it asks for more time before an answer, and whatever its owner
+-- answers.
 abbrev pub DeliversCommands : Type 0
 DeliversCommands =
-    (far : List ℕ → List ℕ) (t : CardState) (bs : List Block) → t ≡ darkened t → (obeying far (record { state = t; delivered = [] }) bs).state.mute ≡ false
+    (far : List ℕ → List ℕ) (t : CardState) (bs : List Block) → t ≡ darkened t
+    → (obeying far (record { state = t; delivered = [] }) bs).state.mute ≡ false
     → (obeying far (record { state = t; delivered = [] }) bs).delivered ≡ iso_commands bs

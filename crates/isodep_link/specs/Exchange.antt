@@ -1,8 +1,9 @@
--- Both ends of ISO-DEP as a link that stops and waits (ISO/IEC 14443-4; NFC Forum Digital Protocol): their tables on the air,
--- how one exchange begins, and in how many blocks its command and its answer are sent.
+-- Both ends of ISO-DEP as a link that stops and waits (ISO/IEC 14443-4; NFC Forum Digital Protocol): their tables on
+-- the air, how one exchange begins, and in how many blocks its command and its answer are sent.
 use Rattle.std.specs.Prelude.{◌≡◌, ℕ, ◌+◌, ◌<◌, ◌≤◌, false, List, [], ◌∷◌, length, Option, Some, None}
 use Rattle.nfc_base.specs.Signal.{Signal}
-use Rattle.nfc_base.specs.StopAndWait.{Does, Quiet, Reply, Deliver, Finished, SixBad, Protocol, Next, Send, Ends, StopAndWait, World, Once, IsReplyTo, run}
+use Rattle.nfc_base.specs.StopAndWait.{Does, Quiet, Reply, Deliver, Finished, SixBad, Protocol, Next, Send, Ends}
+use Rattle.nfc_base.specs.StopAndWait.{StopAndWait, World, Once, IsReplyTo, run}
 use Rattle.nfc_base.specs.Sessions.{opening}
 use Rattle.nfc_base.specs.LinkTurns.{heard_of}
 use Rattle.isodep_link.specs.declared.block.Block.{Block}
@@ -90,7 +91,8 @@ pub record IsMade (t : CardState) : Type 0 where
 
 -- By the blocks that arrived, the card obeyed these commands, and this much of another one came.
 abbrev pub IsCut : CardState → List (List ℕ) → List Signal → Type 0
-IsCut t commands arrived = cut_by (record { chain = []; commands = [] }) (blocks_of arrived) ≡ record { chain = t.chain; commands = commands }
+IsCut t commands arrived = cut_by (record { chain = []; commands = [] }) (blocks_of arrived)
+    ≡ record { chain = t.chain; commands = commands }
 
 -- the next exchange may begin
 abbrev pub IsReady : Exchange → Type 0
@@ -105,15 +107,18 @@ beginning i t commands arrived command =
 abbrev pub next_exchange : Exchange → List ℕ → Exchange
 next_exchange w command = beginning w.asking w.answering w.delivered w.arrived command
 
--- The law of an exchange between a reader with this state and a card with that one, whose owner answers by the function far:
--- at any moment the command was obeyed at most once, as Once says, with at most 2 (k1 + k2 - 1) + 2 K + 4 b transmissions.
-abbrev pub ObeyedOnce : (far : List ℕ → List ℕ) (i : ReaderState) (t : CardState) (commands : List (List ℕ)) (command : List ℕ) → Exchange → Type 0
+-- The law of an exchange between a reader with this state and a card with that one, whose owner answers by the function
+-- far: at any moment the command was obeyed at most once, as Once says, with at most 2 (k1 + k2 - 1) + 2 K + 4 b
+-- transmissions.
+abbrev pub ObeyedOnce : (far : List ℕ → List ℕ) (i : ReaderState) (t : CardState) (commands : List (List ℕ))
+    (command : List ℕ) → Exchange → Type 0
 ObeyedOnce far i t commands command w =
     Once iso_dep IsReady (IsReplyTo far command) commands command (pieces i.core.most command) (blocks_back t) w
 
 -- Over every list of fates, and whatever the card's owner answers, an exchange between ends in step keeps that law.
 abbrev pub ObeysOnce : Type 0
 ObeysOnce =
-    (far : List ℕ → List ℕ) (i : ReaderState) (t : CardState) (commands : List (List ℕ)) (arrived : List Signal) (command : List ℕ) (fates : List Fate)
+    (far : List ℕ → List ℕ) (i : ReaderState) (t : CardState) (commands : List (List ℕ)) (arrived : List Signal)
+    (command : List ℕ) (fates : List Fate)
     → ((xs : List ℕ) → length (far xs) ≤ limit) → length command ≤ limit → InStep i t → IsCut t commands arrived
     → ObeyedOnce far i t commands command (run iso_dep far (beginning i t commands arrived command) fates)

@@ -12,5 +12,7 @@ use Rattle.isodep_link.specs.Activating.{AsksRats, Activates}
 use Rattle.isodep_link.specs.declared.link.IsoLink.{IsoLink}
 
 -- where the tag at a place isn't activated, the field is as the wait of RATS left it
-abbrev pub rests_if_refused : (L : RattleType) → Ghosts L.Denot → (L.Denot → CardState) → (L.Denot → TagState) → MutBor (Air L.Denot) → ℕ → Result (IsoLink L.Denot) AskFault → Fml
-rests_if_refused L k card tag f place r = RestsIfErr (the_row L) f (λ l. l.field.ghost_name) r (λ n. IfErr r (λ e. AsksRats k.machine f.now n (Err e) × Activates k card tag f.now n place (Err e)))
+abbrev pub rests_if_refused : (L : RattleType) → Ghosts L.Denot → (L.Denot → CardState) → (L.Denot → TagState)
+    → MutBor (Air L.Denot) → ℕ → Result (IsoLink L.Denot) AskFault → Fml
+rests_if_refused L k card tag f place r = RestsIfErr (the_row L) f (λ l. l.field.ghost_name) r
+    (λ n. IfErr r (λ e. AsksRats k.machine f.now n (Err e) × Activates k card tag f.now n place (Err e)))

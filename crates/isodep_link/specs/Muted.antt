@@ -1,5 +1,5 @@
--- What the reader of a Type 4 tag says to listeners of any kind: the far end below the field answers by nothing (a payload is for a
--- peer alone; NFC Forum Digital Protocol).
+-- What the reader of a Type 4 tag says to listeners of any kind: the far end below the field answers by nothing (a
+-- payload is for a peer alone; NFC Forum Digital Protocol).
 use Rattle.std.specs.Prelude.{◌≡◌, ℕ, List, [], Bool, Result, Err}
 use Rattle.nfc_base.specs.declared.far.Mute.{Mute}
 use Rattle.nfc_base.specs.declared.tag_link.AskFault.{AskFault}
@@ -17,7 +17,8 @@ abbrev pub mute_steps : Mute → List ℕ → List ℕ → Mute → Type 0
 mute_steps old payload reply new = (new ≡ old) × (reply ≡ [])
 
 -- From one field to another the reader made turns that were due, above such a far end.
-pub record SpeaksMute {L : Type 0} (m : Machine L) (next : List Note → Next) (old new : Air L) (notes : List Note) : Type 0 where
+pub record SpeaksMute {L : Type 0} (m : Machine L) (next : List Note → Next) (old new : Air L) (notes : List Note)
+    : Type 0 where
   pub far : Mute
   pub after : Mute
   pub speaks : Speaks m mute_restarts mute_steps next old far new after notes

@@ -1,6 +1,7 @@
 -- The reader's end of ISO-DEP (ISO/IEC 14443-4; NFC Forum Digital Protocol): what it sends next, or how the exchange
 -- ends, by what it sent last and what it heard. The six receptions and the 264 bytes are this project's own.
-use Rattle.std.specs.Prelude.{◌≡◌, ℕ, ◌+◌, ◌==◌, nat_lt, Bool, true, false, List, [], ◌++◌, drop, Option, Some, None, if◌then◌else◌}
+use Rattle.std.specs.Prelude.{◌≡◌, ℕ, ◌+◌, ◌==◌, nat_lt, Bool, true, false, List, [], ◌++◌, drop, Option, Some, None}
+use Rattle.std.specs.Prelude.{if◌then◌else◌}
 use Rattle.nfc_base.specs.Signal.{Signal}
 use Rattle.nfc_base.specs.declared.event.Heard.{Heard}
 use Rattle.nfc_base.specs.declared.event.Heard.TheVariants.{Whole, Collided, Damaged, Silent}
@@ -101,11 +102,13 @@ brought i more xs =
 
 abbrev pub extended : ReaderState → ℕ → ReaderMove
 extended i times =
-    if may_extend i.core times then sends (record i.core { extension = Some times; granted = i.core.granted + 1 }) Asked i.bads else refuses i
+    if may_extend i.core times then sends (record i.core { extension = Some times; granted = i.core.granted + 1 }) Asked
+    i.bads else refuses i
 
 -- a block, while a wait is under way
 abbrev pub answered : ReaderState → Block → ReaderMove
-answered i (Info more n content) = if (if more_follows i.core then false else n == i.core.number) then brought i more content.items else refuses i
+answered i (Info more n content) = if (if more_follows i.core then false else n == i.core.number)
+    then brought i more content.items else refuses i
 answered i (Ack n) = if n == i.core.number then acked i else missed i i.phase
 answered i (Nak n) = refuses i
 answered i Deselect = refuses i
@@ -179,9 +182,12 @@ SpellsSent (steps.Finished answer) = Unit {0}
 SpellsSent steps.SixBad = Unit {0}
 SpellsSent steps.Protocol = Unit {0}
 
--- After six bad receptions of a wait, and after a whole frame that isn't allowed, each later step tells the same and changes nothing.
+-- After six bad receptions of a wait, and after a whole frame that isn't allowed, each later step tells the same and
+-- changes nothing.
 abbrev pub FaultsStay : Type 0
 FaultsStay =
     (i : ReaderState) (h later : Heard)
-    → ((reader_table i h).does ≡ steps.SixBad → reader_table (reader_table i h).state later ≡ record { state = (reader_table i h).state; does = steps.SixBad })
-    × ((reader_table i h).does ≡ steps.Protocol → reader_table (reader_table i h).state later ≡ record { state = (reader_table i h).state; does = steps.Protocol })
+    → ((reader_table i h).does ≡ steps.SixBad → reader_table (reader_table i h).state later
+    ≡ record { state = (reader_table i h).state; does = steps.SixBad })
+    × ((reader_table i h).does ≡ steps.Protocol → reader_table (reader_table i h).state later
+    ≡ record { state = (reader_table i h).state; does = steps.Protocol })

@@ -2,7 +2,8 @@
 
 ghost use Rattle.std.specs.Prelude.{◌≡◌, ◌≤◌, ◌<◌, length, ◌∷◌};
 ghost use Rattle.nfc_base.specs.Signal.{whole_a};
-ghost use Rattle.isodep_link.specs.Blocks.{spelled_block, short_block, long_block, info_block, block_frame, pcb, toggled, piece, IsSpelled};
+ghost use Rattle.isodep_link.specs.Blocks.{spelled_block, short_block, long_block, info_block, block_frame, pcb};
+ghost use Rattle.isodep_link.specs.Blocks.{toggled, piece, IsSpelled};
 
 use arrayvec::ArrayVec;
 use nfc_base::{Frame, Tech};

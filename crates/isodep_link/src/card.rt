@@ -2,7 +2,9 @@
 
 ghost use Rattle.std.specs.Prelude.{◌≡◌, ◌≤◌, ◌<◌, ◌++◌, length, drop, nat_lt};
 ghost use Rattle.isodep_link.specs.Blocks.{block_frame, piece, IsSpelled};
-ghost use Rattle.isodep_link.specs.Card.{CardTurn, card_table, activated, framed, block_table, again, gathered, drawn, extended, granted, replied, reply_block, fresh, darkened, made_busy, IsSaid, card_step_at};
+ghost use Rattle.isodep_link.specs.Card.{CardTurn, card_table, activated, framed, block_table, again, gathered, drawn};
+ghost use Rattle.isodep_link.specs.Card.{extended, granted, replied, reply_block, fresh, darkened, made_busy, IsSaid};
+ghost use Rattle.isodep_link.specs.Card.{card_step_at};
 
 use crate::block::{Block, piece, toggled};
 use crate::size::{LEAST_CODE, ats_frame, piece_size, rats_code};
@@ -222,7 +224,8 @@ impl CardEnd {
     }
 
     fn obey(&mut self, block: &Block, answer: &mut Frame) -> CardKind
-        ensures step { record { state = self.new; does = card_step_at result answer.new } ≡ framed (block_table self.old block.now) }
+        ensures step { record { state = self.new; does = card_step_at result answer.new }
+            ≡ framed (block_table self.old block.now) }
         ensures spelled { IsSaid self.old.code (card_step_at result answer.new) }
     {
         match block {
@@ -255,7 +258,8 @@ impl CardEnd {
 
     /// The last block again.
     fn repeat(&self, answer: &mut Frame) -> CardKind
-        ensures step { record { state = self.now; does = card_step_at result answer.new } ≡ framed (again self.now self.now.last) }
+        ensures step { record { state = self.now; does = card_step_at result answer.new }
+            ≡ framed (again self.now self.now.last) }
         ensures spelled { IsSaid self.now.code (card_step_at result answer.new) }
     {
         match &self.last {
@@ -312,7 +316,8 @@ impl CardEnd {
 
     /// S(WTX) by this value.
     fn extend(&mut self, times: u8, answer: &mut Frame) -> CardKind
-        ensures step { record { state = self.new; does = card_step_at result answer.new } ≡ framed (extended self.old times) }
+        ensures step { record { state = self.new; does = card_step_at result answer.new }
+            ≡ framed (extended self.old times) }
         ensures spelled { IsSaid self.old.code (card_step_at result answer.new) }
     {
         if self.due > 0 && times == self.times {

@@ -8,8 +8,8 @@ use crate::reader::{ReaderEnd, ReaderKind};
 use air_core::{AirFault, Field};
 use nfc_base::{AskFault, Frame, Mute, Tech};
 
-/// Asks one command of the tag at a place: turns with the reader's blocks, up to the answer or a fault. The far end of its
-/// turns is mute, since such a tag asks nothing of one.
+/// Asks one command of the tag at a place: turns with the reader's blocks, up to the answer or a fault. The far end of
+/// its turns is mute, since such a tag asks nothing of one.
 pub(crate) fn ask_card<L: CardListener>(
     field: &mut Field<L>,
     place: usize,

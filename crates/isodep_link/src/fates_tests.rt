@@ -144,13 +144,13 @@ fn exchange<R: Abort>(
     Err(Fail::new("no end"))
 }
 
-/// A command and an answer of these sizes, the blocks of at most 13 bytes that they take, and how often the card asks for
-/// more time.
+/// A command and an answer of these sizes, the blocks of at most 13 bytes that they take, and how often the card asks
+/// for more time.
 type Sizes = (usize, usize, u32, u32, u8);
 
-/// Whether an exchange went as the law has it: the card obeyed at most once, and exactly once where it was answered; with
-/// so many blocks out and back, K extensions and b bad receptions, at most 2 (out + back - 1) + 2 K + 4 b transmissions;
-/// and no more is asked for time than K times and once for each bad reception.
+/// Whether an exchange went as the law has it: the card obeyed at most once, and exactly once where it was answered;
+/// with so many blocks out and back, K extensions and b bad receptions, at most 2 (out + back - 1) + 2 K + 4 b
+/// transmissions; and no more is asked for time than K times and once for each bad reception.
 fn is_lawful(course: &Course, end: End, sizes: &Sizes) -> bool {
     let once = match end {
         End::Answered => course.obeyed == 1,

@@ -15,8 +15,8 @@ pub fn blocks_read()
     ensures one { SpellsOne }
 {}
 
-/// A command is obeyed at most once, and exactly once where the reader has its answer: in one exchange, and in exchanges one
-/// after another.
+/// A command is obeyed at most once, and exactly once where the reader has its answer: in one exchange, and in
+/// exchanges one after another.
 pub fn obeyed_once()
     ensures exchange { ObeysOnce }
     ensures session { SessionDelivers iso_dep next_exchange IsReady limit }

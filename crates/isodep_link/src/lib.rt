@@ -2,8 +2,8 @@
 //! blocks that stop and wait.
 //!
 //! `block` reads and writes blocks, `size` says how long they are, `card` and `reader` are the ends, one step of their
-//! tables a call; none of these takes memory. `listener` says what a Type 4 tag is in a field, `activate` and `exchange`
-//! are the reader's turns with one, and `link` is the link to it. `law` has what both tables keep together.
+//! tables a call; none of these takes memory. `listener` says what a Type 4 tag is in a field, `activate` and
+//! `exchange` are the reader's turns with one, and `link` is the link to it. `law` has what both tables keep together.
 #![tactic(auto)]
 
 mod activate;

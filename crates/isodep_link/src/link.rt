@@ -30,7 +30,8 @@ impl<'a, L: CardListener> IsoLink<'a, L> {
     ghost use Rattle.std.specs.Borrow.{sem};
     ghost use Rattle.isodep_link.specs.Lends.{rests_if_refused};
 
-    /// Sends RATS to the tag at a place, again after each bad reception, and gives the link to it. Any listener may stand there.
+    /// Sends RATS to the tag at a place, again after each bad reception, and gives the link to it. Any listener may
+    /// stand there.
     pub fn activate(field: &'a mut Field<L>, place: usize) -> Result<IsoLink<'a, L>, AskFault>
         ensures* rests { sem 𝓛 (rests_if_refused L.row L.Listener L.card L.tag field.entry place result) }
         ensures same { IfOk result (λ l. l.field.ghost_name ≡ field.entry.ghost_name) }
@@ -60,8 +61,8 @@ impl<'a, L: CardListener> IsoLink<'a, L> {
         }
     }
 
-    /// Asks one command of whatever stands at the place: turns by the reader's table, up to the answer or a fault, by which the
-    /// link is then over. `ask` is this with a tag that keeps to the card's table.
+    /// Asks one command of whatever stands at the place: turns by the reader's table, up to the answer or a fault, by
+    /// which the link is then over. `ask` is this with a tag that keeps to the card's table.
     pub fn exchange(&mut self, command: &Frame) -> Result<Frame, AskFault>
         requires fits { length command.now.bytes ≤ 264 }
         ensures turns { self.old.over ≡ None

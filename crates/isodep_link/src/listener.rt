@@ -6,8 +6,8 @@ ghost use Rattle.isodep_link.specs.Card.{CardState};
 
 use air_core::Listener;
 
-/// A listener that may be a Type 4 tag: what contracts see of its card's end, and of the tag above it. What is no such tag
-/// shows any card's end, and a tag that holds its store.
+/// A listener that may be a Type 4 tag: what contracts see of its card's end, and of the tag above it. What is no such
+/// tag shows any card's end, and a tag that holds its store.
 pub trait CardListener: Listener {
     /// Its card's end.
     ghost card: { Self → CardState };

@@ -138,8 +138,8 @@ fn first_block_after<R: Abort>(rt: &R, alloc: Global, bytes: &[u8]) -> Result<us
     Ok(second_request(&field))
 }
 
-/// What answers RATS by each of these is asked a command, whose first block is so long, and answers the same again, which is
-/// no block; 0 where its answer is none to RATS.
+/// What answers RATS by each of these is asked a command, whose first block is so long, and answers the same again,
+/// which is no block; 0 where its answer is none to RATS.
 #[test]
 fn answers_to_rats(rt: HostRuntime) -> Result<(), Fail> {
     let rows: [(&[u8], usize); 7] = [

@@ -3,7 +3,9 @@
 ghost use Rattle.std.specs.Prelude.{◌≡◌, ◌<◌, ◌≤◌, length, None};
 ghost use Rattle.isodep_link.specs.Blocks.{block_frame, spelled_block, IsSpelled};
 ghost use Rattle.nfc_base.specs.Pieces.{more_follows, may_extend};
-ghost use Rattle.isodep_link.specs.Reader.{ReaderTurn, reader_table, framed, sent, sends, refuses, bad, acked, missed, brought, answered, waited, whole_reception, request, extended, begun, waiting, SpellsSent, reader_step_at};
+ghost use Rattle.isodep_link.specs.Reader.{ReaderTurn, reader_table, framed, sent, sends, refuses, bad, acked, missed};
+ghost use Rattle.isodep_link.specs.Reader.{brought, answered, waited, whole_reception, request, extended, begun};
+ghost use Rattle.isodep_link.specs.Reader.{waiting, SpellsSent, reader_step_at};
 
 use crate::block::{Block, piece, toggled};
 use crate::size::piece_size;
@@ -190,7 +192,8 @@ impl ReaderEnd {
 
     /// Sends what belongs to the phase.
     fn send(&mut self, phase: Phase, sent: &mut Frame) -> ReaderKind
-        ensures step { record { state = self.new; does = reader_step_at result sent.new } ≡ framed (sends self.old.core phase self.old.bads) }
+        ensures step { record { state = self.new; does = reader_step_at result sent.new }
+            ≡ framed (sends self.old.core phase self.old.bads) }
         ensures spelled { SpellsSent (reader_step_at result sent.new) }
     {
         self.phase = phase;
@@ -248,7 +251,8 @@ impl ReaderEnd {
     }
 
     fn answered(&mut self, block: &Block, sent: &mut Frame) -> ReaderKind
-        ensures step { record { state = self.new; does = reader_step_at result sent.new } ≡ framed (answered self.old block.now) }
+        ensures step { record { state = self.new; does = reader_step_at result sent.new }
+            ≡ framed (answered self.old block.now) }
         ensures spelled { SpellsSent (reader_step_at result sent.new) }
     {
         match block {
@@ -298,7 +302,8 @@ impl ReaderEnd {
 
     /// The card didn't hear the last I-block.
     fn ask_again(&mut self, sent: &mut Frame) -> ReaderKind
-        ensures step { record { state = self.new; does = reader_step_at result sent.new } ≡ framed (missed self.old self.old.phase) }
+        ensures step { record { state = self.new; does = reader_step_at result sent.new }
+            ≡ framed (missed self.old self.old.phase) }
         ensures spelled { SpellsSent (reader_step_at result sent.new) }
     {
         match self.phase {
@@ -312,7 +317,8 @@ impl ReaderEnd {
 
     /// A piece of the answer.
     fn take(&mut self, more: bool, content: &[u8], sent: &mut Frame) -> ReaderKind
-        ensures step { record { state = self.new; does = reader_step_at result sent.new } ≡ framed (brought self.old more content.now) }
+        ensures step { record { state = self.new; does = reader_step_at result sent.new }
+            ≡ framed (brought self.old more content.now) }
         ensures spelled { SpellsSent (reader_step_at result sent.new) }
     {
         if more && content.is_empty() {
@@ -343,7 +349,8 @@ impl ReaderEnd {
 
     /// The card asks for more time.
     fn extend(&mut self, times: u8, sent: &mut Frame) -> ReaderKind
-        ensures step { record { state = self.new; does = reader_step_at result sent.new } ≡ framed (extended self.old times) }
+        ensures step { record { state = self.new; does = reader_step_at result sent.new }
+            ≡ framed (extended self.old times) }
         ensures spelled { SpellsSent (reader_step_at result sent.new) }
     {
         if !self.may_extend(times) {

@@ -37,8 +37,8 @@ pub(crate) fn piece_size(code: u8) -> usize
     block - AROUND
 }
 
-/// Whether a frame is RATS, which opens a link to a Type 4 tag (ISO/IEC 14443-4). Whoever holds a `CardEnd` hands it all frames
-/// from there on.
+/// Whether a frame is RATS, which opens a link to a Type 4 tag (ISO/IEC 14443-4). Whoever holds a `CardEnd` hands it
+/// all frames from there on.
 pub fn is_rats(frame: &Frame) -> bool
     ensures { result ≡ is_rats frame.now }
 {

@@ -181,7 +181,8 @@ fn a_busy_card_asks_for_more_time(rt: HostRuntime) -> Result<(), Fail> {
     walk_card(&rt, &mut card, &rows)
 }
 
-/// Its one piece waits for the time to be granted, and comes behind an I-block that chains, which asks for no more time.
+/// Its one piece waits for the time to be granted, and comes behind an I-block that chains, which asks for no more
+/// time.
 #[test]
 fn an_empty_answer_has_one_piece(rt: HostRuntime) -> Result<(), Fail> {
     let mut card = CardEnd::new(8);

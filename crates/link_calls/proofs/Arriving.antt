@@ -99,7 +99,8 @@ module _ {L : Type 0} (k : Ghosts L) (target : L → TargetState) where
         record { bytes = subst (AllByRecursion AreBytes) same r.bytes; after_is = r.after_is ∙ ap (λ xs. all_answered xs far) same }
 
     -- as the last of them came the end stopped
-    pub stops_so : (ps : List (List ℕ)) (out : List ℕ) (far half after : Choosing PeerState) → brought p.first (since p) ≡ ps ++ out ∷ [] → Ran ps far half → AreBytes out → StopsCounted serving half out after
+    pub stops_so : (ps : List (List ℕ)) (out : List ℕ) (far half after : Choosing PeerState) → brought p.first (since p) ≡ ps ++ out ∷ [] → Ran ps far half → AreBytes out
+        → StopsCounted serving half out after
         → StopsAtLast i.core.number (drop (length old.trace) p.air.trace) far after
     stops_so ps out far half after handed r bytes stops =
         let same : ps ++ out ∷ [] ≡ brought i.core.number (drop (length old.trace) p.air.trace) = sym handed ∙ ap (λ n. brought n (since p)) first ∙ ap (brought i.core.number) since_is in

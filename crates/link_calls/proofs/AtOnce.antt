@@ -1,5 +1,6 @@
 -- Messages that are put at once, each from a slot.
-use Rattle.std.proofs.Common.{◌≡◌, ◌<◌, ◌≤◌, ◌≢◌, ◌⊎◌, ◌==◌, ◌||◌, ◌+◌, ◌-◌, ℕ, zero, suc, nat_lt, Bool, true, false, List, [], ◌∷◌, length, replicate, set, if◌then◌else◌, Some, None, Result, Ok, Err, OnOk, refl, sym, ◌∙◌, ap, subst, append-nil, arith, inl, inr}
+use Rattle.std.proofs.Common.{◌≡◌, ◌<◌, ◌≤◌, ◌≢◌, ◌⊎◌, ◌==◌, ◌||◌, ◌+◌, ◌-◌, ℕ, zero, suc, nat_lt, Bool, true, false, List, [], ◌∷◌, length, replicate, set, if◌then◌else◌, Some, None, Result, Ok, Err}
+use Rattle.std.proofs.Common.{OnOk, refl, sym, ◌∙◌, ap, subst, append-nil, arith, inl, inr}
 use Rattle.std.proofs.lemmas.Bool.{ne_eqb, ltb-false, ltb-true}
 use Rattle.std.proofs.lemmas.Bool.Decides.{nat_tests}
 use Rattle.std.proofs.lemmas.List.{get_or-set_other, get_or-set_same, length-set}
@@ -17,7 +18,8 @@ use Rattle.snep_core.specs.Payloads.{accepted_from}
 use Rattle.snep_core.specs.Server.{Received}
 use Rattle.snep_core.specs.declared.slot.Slot.{Slot}
 use Rattle.snep_core.specs.declared.slot.Slot.TheVariants.{NoMessage, Rejected, Staged, Success}
-use Rattle.snep_core.specs.Slots.{NoneStaged, all_puts, answered_as, fresh_slots, has_staged, is_staged_at, job_from, marked, noted, noted_from, put_with, puts_from, slot_at, slot_count, staged_on, outcome_told, put_alone}
+use Rattle.snep_core.specs.Slots.{NoneStaged, all_puts, answered_as, fresh_slots, has_staged, is_staged_at, job_from, marked, noted, noted_from, put_with, puts_from, slot_at, slot_count, staged_on}
+use Rattle.snep_core.specs.Slots.{outcome_told, put_alone}
 use Rattle.snep_core.specs.declared.job.OnSap.{OnSap}
 use Rattle.snep_core.specs.Talk.{EndState, Puts, TaskOn, client_sap, one_on, sap_of_slot}
 use Rattle.snep_core.proofs.jobs.SlotPuts.{noted_length, noted_there, slot_there}
@@ -198,7 +200,8 @@ module _ (ws : List SlotMessage) (slots told : List Slot) (old new : PeerState) 
     grew = adds.grew;
   }
 
-pub run_served : (ws : List SlotMessage) (slots told : List Slot) (jobs : List OnSap) (old : PeerState) (client : EndState) (new : PeerState) → IsAtRest slots → AreApart ws → told ≡ noted jobs (all_staged ws slots)
+pub run_served : (ws : List SlotMessage) (slots told : List Slot) (jobs : List OnSap) (old : PeerState) (client : EndState) (new : PeerState) → IsAtRest slots → AreApart ws
+    → told ≡ noted jobs (all_staged ws slots)
     → IsRun (all_staged ws slots) told old client new → ServedAtOnce ws old (Ok jobs) client new
 run_served ws slots told jobs old client new rest apart told_is run = record {
   puts = as_told ws slots told old new rest apart run.adds jobs told_is;

@@ -96,23 +96,27 @@ module _ {L C A : Type 0} (k : Ghosts L) (target : L → TargetState) (see : C �
       → Breaks (sees see) (swaps k target see) steps stops ns from a far e new b after → BreaksSo ns from a far e b after
   breaks_so ns from a b far after e new goes broke = breaks_at ns from a b far after e new goes broke broke.cut
 
-module _ {L F C A : Type 0} (k : Ghosts L) (target : L → TargetState) (linked : L → Bool) (t : FarTable F) (see : C → DepSeen L) (restarts : A → List ℕ → A → Type 0) (steps : A → List ℕ → List ℕ → A → Type 0) (stops : A → List ℕ → A → Type 0) (view : A → Choosing F)
+module _ {L F C A : Type 0} (k : Ghosts L) (target : L → TargetState) (linked : L → Bool) (t : FarTable F) (see : C → DepSeen L) (restarts : A → List ℕ → A → Type 0)
+    (steps : A → List ℕ → List ℕ → A → Type 0) (stops : A → List ℕ → A → Type 0) (view : A → Choosing F)
     (swap : SwapsFar k target linked t restarts steps stops view) (stop : StopsFar k target linked t restarts steps stops view) where
   pub talks_far : TalksFar k target linked t see restarts steps stops view
   talks_far links fars kind numbers from to a b far after talk goes place there os =
       let walk = walks_of k target see steps stops numbers from to a b far after talk in
-      walked k target linked t place os by_client see restarts steps stops view links fars kind swap stop walk.did (next_of numbers from) (next_of (numbers_behind talk.did numbers) to) a b far after walk.told
+      walked k target linked t place os by_client see restarts steps stops view links fars kind swap stop walk.did (next_of numbers from) (next_of (numbers_behind talk.did numbers) to) a b far after
+      walk.told
       walk.swapped (walk.over ∙ goes) walk.far_moved there
 
   -- by its fault
-  by_fault : (halts : Choosing F → List ℕ → Choosing F → Type 0) (numbers : List ℕ) (from : Step) (i : InitState) (old new : Air L) (place : ℕ) (os : List (Option F)) (far after : Choosing F) (c : EndCause)
+  by_fault : (halts : Choosing F → List ℕ → Choosing F → Type 0) (numbers : List ℕ) (from : Step) (i : InitState) (old new : Air L) (place : ℕ) (os : List (Option F)) (far after : Choosing F)
+      (c : EndCause)
       → WalkCut k linked t halts by_client (next_of numbers from) i old new place os far after c → CutBy k target linked t halts numbers from i old new place os far after (fault_of c)
   by_fault halts numbers from i old new place os far after cause.FieldLost w = w
   by_fault halts numbers from i old new place os far after cause.SixBad w = w
   by_fault halts numbers from i old new place os far after cause.Protocol w = w
   by_fault halts numbers from i old new place os far after cause.Memory w = w
 
-  pub breaks_by : (halts : Choosing F → List ℕ → Choosing F → Type 0) → ((u : A) (payload : List ℕ) (v : A) → stops u payload v → halts (view u) payload (view v)) → BreaksBy k target linked t see restarts steps stops view halts
+  pub breaks_by : (halts : Choosing F → List ℕ → Choosing F → Type 0) → ((u : A) (payload : List ℕ) (v : A) → stops u payload v → halts (view u) payload (view v))
+      → BreaksBy k target linked t see restarts steps stops view halts
   breaks_by halts halting links fars kind numbers from a b far after e new broke goes place there os =
       let b' = breaks_so k target see steps stops numbers from a b far after e new goes broke in
       let w = b'.broke in

@@ -55,7 +55,8 @@ module _ {L : Type 0} (k : Ghosts L) (target : L → TargetState) (linked : L �
   left_so : (s : CallStanding) → ((new ≡ mid) × (after ≡ half)) ⊎ HaltsBy (call_due_at s)
       → ((new ≡ mid) × (after ≡ half)) ⊎ (HaltsBy (closing_due_at (closing_at s)) ⊎ HaltsAtRls k linked peer_ends (closing_at s) mid new)
   left_so s (inl e) = inl e
-  left_so s (inr h) = inr (inl (record { sent = h.sent; asked = due_same s h.sent h.asked; passes = h.passes; payload = h.payload; listeners = h.listeners; heard = h.heard; left = h.left; halted = h.halted }))
+  left_so s (inr h) =
+      inr (inl (record { sent = h.sent; asked = due_same s h.sent h.asked; passes = h.passes; payload = h.payload; listeners = h.listeners; heard = h.heard; left = h.left; halted = h.halted }))
 
 module _ {L A : Type 0} (m : Machine L) (restarts : A → List ℕ → A → Type 0) (steps : A → List ℕ → List ℕ → A → Type 0) (stops : A → List ℕ → A → Type 0) (is_stuck : A → Bool)
     (quiet : (l : L) → m.handed l rls_frame ≡ Untouched) where
@@ -71,7 +72,8 @@ module _ {L A : Type 0} (m : Machine L) (restarts : A → List ℕ → A → Typ
   none_stops : (ls : List L) (far : A) (ls' : List L) (far' : A) → HearSome m restarts steps stops is_stuck rls_frame ls far ls' far' → ⊥
   none_stops ls far ls' far' some = quiet_goes_on m restarts steps stops is_stuck rls_frame ls far ls' far' (each_at_rls ls) some
 
-module _ {L C : Type 0} (k : Ghosts L) (target : L → TargetState) (see : C → DepSeen L) (laws : Laws k) (a b : C) (far half : Choosing PeerState) (old : Air L) (i : InitState) (is : see a ≡ first_seen old i)
+module _ {L C : Type 0} (k : Ghosts L) (target : L → TargetState) (see : C → DepSeen L) (laws : Laws k) (a b : C) (far half : Choosing PeerState) (old : Air L) (i : InitState)
+    (is : see a ≡ first_seen old i)
     (open_ : IsOpen k target old i) (ready : (see b).over ≡ None → IsDepReady k target (see b)) (ns : List ℕ) (from : Step) where
   abbrev Fails : EndState → Air L → Choosing PeerState → SnepFault → Type 0
   Fails client new after e = ClosingFails k target ns from old i far new after client (see b).initiator e
@@ -112,7 +114,8 @@ module _ {L C : Type 0} (k : Ghosts L) (target : L → TargetState) (see : C →
     setting = λ quiet. c.setting;
   }
 
-  pub closing_failed : (client : EndState) (e : SnepFault) → FailsBy (sees see) (swaps k target see) (AnswersCounted serving) (StopsCounted serving) ns from a far e client b half → Fails client (see b).air half e
+  pub closing_failed : (client : EndState) (e : SnepFault) → FailsBy (sees see) (swaps k target see) (AnswersCounted serving) (StopsCounted serving) ns from a far e client b half
+      → Fails client (see b).air half e
   closing_failed client e (inl (bad, came, talk)) =
       subst (Fails client (see b).air half) (sym bad) (
         came,
@@ -122,7 +125,8 @@ module _ {L C : Type 0} (k : Ghosts L) (target : L → TargetState) (see : C →
       )
   closing_failed client e (inr broke) = cut_closing client e (cut_off k target see laws a b far half old i is open_ ready ns from e client broke)
 
-  module _ (jobs : _) (client : EndState) (talk : Talks (sees see) (swaps k target see) (AnswersCounted serving) (StopsCounted serving) ns from a far (Ends jobs client) b half) (is_stuck : Choosing PeerState → Bool) (new : Air L)
+  module _ (jobs : _) (client : EndState) (talk : Talks (sees see) (swaps k target see) (AnswersCounted serving) (StopsCounted serving) ns from a far (Ends jobs client) b half)
+      (is_stuck : Choosing PeerState → Bool) (new : Air L)
       (after : Choosing PeerState)
       (same : ((l : L) → k.machine.handed l rls_frame ≡ Untouched) → after ≡ half) where
     -- RLS_REQ is due
@@ -133,12 +137,14 @@ module _ {L C : Type 0} (k : Ghosts L) (target : L → TargetState) (see : C →
         (of_call k linked peer_ends place os ns from i old far (see b).air half target (Comes (Ends jobs client) (see b).initiator) z.0 (λ q. cc), z.1)
 
     set_still : ((l : L) → k.machine.handed l rls_frame ≡ Untouched) → setting_of after.end ≡ setting_of far.end
-    set_still quiet = ap (λ (p : Choosing PeerState). setting_of p.end) (same quiet) ∙ (made k target see laws a b far half old i is open_ ready ns from (Ends jobs client) talk (λ left. refl)).carried.setting
+    set_still quiet =
+        ap (λ (p : Choosing PeerState). setting_of p.end) (same quiet) ∙ (made k target see laws a b far half old i is open_ ready ns from (Ends jobs client) talk (λ left. refl)).carried.setting
 
     call_arrives : Arrives i.core.number (drop (length old.trace) (see b).air.trace) far half
     call_arrives = (made k target see laws a b far half old i is open_ ready ns from (Ends jobs client) talk (λ left. refl)).carried.arrives
 
-    sends_rls : (heard : Option Heard) → TurnIs k.machine (RestartsCounted serving) (AnswersCounted serving) (see b).air rls_frame half heard new after → SendsRls k target ns from old i far new after heard
+    sends_rls : (heard : Option Heard) → TurnIs k.machine (RestartsCounted serving) (AnswersCounted serving) (see b).air rls_frame half heard new after
+        → SendsRls k target ns from old i far new after heard
     sends_rls heard turn =
         let call = made k target see laws a b far half old i is open_ ready ns from (Ends jobs client) talk (λ left. refl) in
         let carried = call.carried in
@@ -161,22 +167,27 @@ module _ {L C : Type 0} (k : Ghosts L) (target : L → TargetState) (see : C →
               };
         }
 
-    pub released : Releases k.machine (RestartsCounted serving) (AnswersCounted serving) (StopsCounted serving) is_stuck (see b).air half (Ok tt) new after → IsReleased k target ns from old i far new after (Ends jobs client)
+    pub released : Releases k.machine (RestartsCounted serving) (AnswersCounted serving) (StopsCounted serving) is_stuck (see b).air half (Ok tt) new after
+        → IsReleased k target ns from old i far new after (Ends jobs client)
     released (heard, turn) = record {
       turns = λ linked links place there os.
           let z = due_rls linked links place there os in
-          with_release k linked peer_ends place os ns from i old far laws target (RestartsCounted serving) (AnswersCounted serving) (λ c. c) links peer_table peer_kind (see b).air new half after (Ends jobs client) z.0 z.1 (Some heard) turn;
+          with_release k linked peer_ends place os ns from i old far laws target (RestartsCounted serving) (AnswersCounted serving) (λ c. c) links peer_table peer_kind (see b).air new half after
+          (Ends jobs client) z.0 z.1 (Some heard) turn;
       heard = heard;
       sent = sends_rls (Some heard) turn;
     }
 
-    pub release_failed : (answered : Bool) (c : EndCause) → Releases k.machine (RestartsCounted serving) (AnswersCounted serving) (StopsCounted serving) is_stuck (see b).air half (Err (record { cause = c; answered = answered })) new after
+    pub release_failed : (answered : Bool) (c : EndCause) → Releases k.machine (RestartsCounted serving) (AnswersCounted serving) (StopsCounted serving) is_stuck (see b).air half
+        (Err (record { cause = c; answered = answered })) new after
         → Fails client new after (fault_of c)
-    release_failed answered cause.FieldLost (q, inl d) = absurd (let lit = (made k target see laws a b far half old i is open_ ready ns from (Ends jobs client) talk (λ left. refl)).open_.in_step.0 in let dark = d.0 in cc)
+    release_failed answered cause.FieldLost (q, inl d) = absurd (let lit = (made k target see laws a b far half old i is open_ ready ns from (Ends jobs client) talk (λ left. refl)).open_.in_step.0 in
+        let dark = d.0 in cc)
     release_failed answered cause.FieldLost (q, inr turn) = record {
       turns = λ linked links place there os.
           let z = due_rls linked links place there os in
-          with_release k linked peer_ends place os ns from i old far laws target (RestartsCounted serving) (AnswersCounted serving) (λ c. c) links peer_table peer_kind (see b).air new half after (Ends jobs client) z.0 z.1 None turn;
+          with_release k linked peer_ends place os ns from i old far laws target (RestartsCounted serving) (AnswersCounted serving) (λ c. c) links peer_table peer_kind (see b).air new half after
+          (Ends jobs client) z.0 z.1 None turn;
       how = inr (refl, sends_rls None turn);
       noisy = λ n. absurd cc;
     }
@@ -202,10 +213,12 @@ module _ {L C : Type 0} (k : Ghosts L) (target : L → TargetState) (see : C →
               passes = stops.fate;
               listeners = stops.listeners;
               left = stops.left;
-              hands = λ quiet. none_stops k.machine (RestartsCounted serving) (AnswersCounted serving) (StopsCounted serving) is_stuck quiet (see b).air.listeners half stops.listeners after stops.some;
+              hands = λ quiet. none_stops k.machine (RestartsCounted serving) (AnswersCounted serving) (StopsCounted serving) is_stuck quiet (see b).air.listeners half stops.listeners after
+                  stops.some;
             }));
           };
-      arrives = λ quiet. absurd (none_stops k.machine (RestartsCounted serving) (AnswersCounted serving) (StopsCounted serving) is_stuck quiet (see b).air.listeners half stops.listeners after stops.some);
+      arrives = λ quiet. absurd (none_stops k.machine (RestartsCounted serving) (AnswersCounted serving) (StopsCounted serving) is_stuck quiet (see b).air.listeners half stops.listeners after
+          stops.some);
       setting = set_still;
     }
     release_failed answered cause.SixBad (q, never) = absurd never

@@ -71,7 +71,8 @@ module _ {L F : Type 0} (k : Ghosts L) (linked : L → Bool) (t : FarTable F) (p
   Turns new after s = ClosingTurns k linked t numbers from i old new place os far after s
 
   -- the turns of its call
-  pub of_call : (new : Air L) (after : Choosing F) (target : L → TargetState) (s : CallStanding) → CallTurns k target linked t numbers from i old new place os far after s → (s ≡ Strays → ⊥) → Turns new after (closing_at s)
+  pub of_call : (new : Air L) (after : Choosing F) (target : L → TargetState) (s : CallStanding) → CallTurns k target linked t numbers from i old new place os far after s → (s ≡ Strays → ⊥)
+      → Turns new after (closing_at s)
   of_call new after target s c never =
       let next : List Note → Next = closing_due numbers from i in
       let rest : List Note → Next = λ ns. next (c.notes ++ ns) in
@@ -81,7 +82,8 @@ module _ {L F : Type 0} (k : Ghosts L) (linked : L → Bool) (t : FarTable F) (p
       record {
         notes = c.notes;
         going = subst N (append-nil c.notes)
-            (far_goes_then k.machine linked t next (call_due numbers from i) rest (moment old) (moment new) (moment new) c.notes [] place os far after after (asks_same numbers from i) (λ ns. refl) c.going none);
+            (far_goes_then k.machine linked t next (call_due numbers from i) rest (moment old) (moment new) (moment new) c.notes [] place os far after after (asks_same numbers from i) (λ ns. refl)
+            c.going none);
         stands = follows (call_at numbers from i) c.notes s c.stands never;
       }
 
@@ -97,7 +99,8 @@ module _ {L F : Type 0} (k : Ghosts L) (linked : L → Bool) (t : FarTable F) (p
       (aside_turns k laws restarts steps own place mid new rls_frame heard half after refl (aside_of k own mid.listeners place s.0 s.2) turn).0 in
       record {
         notes = c.notes ++ note heard ∷ [];
-        going = far_goes_on k.machine linked t (closing_due numbers from i) (moment old) (moment mid) (moment new) rls_frame heard c.notes place os far (view half) (view after) c.going (ap closing_due_at c.stands)
+        going = far_goes_on k.machine linked t (closing_due numbers from i) (moment old) (moment mid) (moment new) rls_frame heard c.notes place os far (view half) (view after) c.going
+            (ap closing_due_at c.stands)
             (far_turns k.machine linked t restarts steps view links fars kind mid new rls_frame heard half after place os quiet turn);
         stands = closing_append (closing_at (call_at numbers from i)) c.notes (note heard ∷ []) ∙ ap (λ z. closing_noted z (note heard)) c.stands;
       }

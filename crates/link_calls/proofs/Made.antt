@@ -87,7 +87,8 @@ module _ {L C : Type 0} (k : Ghosts L) (target : L → TargetState) (see : C →
     call_failed ns from e new (inl (bad, came_to, talk)) = inl (bad, came_to, made ns from (gives_up came_to new) talk (λ left. refl))
     call_failed ns from e new (inr broke) = inr (cut_off ns from e new broke)
 
-    pub request_failed : (sap : ℕ) (ns : List ℕ) (from : Step) (e : SnepFault) (new : EndState) → calling.RequestFails (sees see) (swaps k target see) (AnswersCounted serving) (StopsCounted serving) sap ns from a far e new b after
+    pub request_failed : (sap : ℕ) (ns : List ℕ) (from : Step) (e : SnepFault) (new : EndState)
+        → calling.RequestFails (sees see) (swaps k target see) (AnswersCounted serving) (StopsCounted serving) sap ns from a far e new b after
         → RequestFails k target ns from old i far (see b).air (see b).initiator after sap new e
     request_failed sap ns from e new (inl refused) = inl (refused.why, refused.fault, made ns from (Ends (one_on sap (Over (Refused refused.why))) new) refused.talks (λ left. refl))
     request_failed sap ns from e new (inr failed) = inr (call_failed ns from e new failed)

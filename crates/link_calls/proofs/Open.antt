@@ -17,7 +17,8 @@ use Rattle.dep_link.specs.Target.{TargetState}
 use Rattle.dep_link.specs.Payloads.{Cut}
 use Rattle.dep_link.specs.Sizes.{limit}
 use Rattle.nfc_base.specs.Pieces.{Core, most_bads, turned, more_follows, is_refused, may_extend}
-use Rattle.dep_link.specs.Initiator.{InitState, InitMove, Next, Asks, Gives, GivesUp, Refuses, sends, refuses, bad, received, brought, answered, waited, attending, whole, damaged, silent, heard_next, framed_next}
+use Rattle.dep_link.specs.Initiator.{InitState, InitMove, Next, Asks, Gives, GivesUp, Refuses, sends, refuses, bad, received, brought, answered, waited, attending, whole, damaged, silent, heard_next}
+use Rattle.dep_link.specs.Initiator.{framed_next}
 use Rattle.dep_link.specs.Asking.{Standing, Waits, Rests, Broken, Astray, asks, goes_by, noted, stand}
 use Rattle.dep_link.specs.DepLinks.{DepSeen, PayloadExchanged, StandsAt, IsDepReady, IsInStep, over_at}
 

@@ -14,7 +14,8 @@ use Rattle.snep_core.specs.Calling.{fault_of}
 use Rattle.dep_link.proofs.Released.{rls_use}
 
 -- where no listener hands anything over at it, the peer of an open link doesn't
-pub takes_rls : {L : Type 0} (k : Ghosts L) (target : L → TargetState) (air : Air L) (i : InitState) → IsInStep k target air i → ((l : L) → k.machine.handed l rls_frame ≡ Untouched) → TakesRls k target air
+pub takes_rls : {L : Type 0} (k : Ghosts L) (target : L → TargetState) (air : Air L) (i : InitState) → IsInStep k target air i → ((l : L) → k.machine.handed l rls_frame ≡ Untouched)
+    → TakesRls k target air
 takes_rls k target air i (lit, peer) quiet =
     record { place = peer.place; listener = peer.listener; alone = peer.alone; asks = quiet peer.listener ∙ sym (rls_use (target peer.listener)) }
 

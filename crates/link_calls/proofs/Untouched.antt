@@ -19,7 +19,8 @@ use Rattle.link_calls.proofs.Walk.{never_strays, starts}
 none_came : (first : ℕ) (es : List Event) (far : Choosing PeerState) → es ≡ [] → ArrivesCut first es far far
 none_came first es far none = subst (λ xs. ArrivesCut first xs far far) (sym none) (inl (record { bytes = tt; after_is = refl }))
 
-pub nothing_done : {L : Type 0} (k : Ghosts L) (target : L → TargetState) (numbers : List ℕ) (from : Step) (old : Air L) (i : InitState) (far : Choosing PeerState) → IsCutShort k target numbers from old i far old i far
+pub nothing_done : {L : Type 0} (k : Ghosts L) (target : L → TargetState) (numbers : List ℕ) (from : Step) (old : Air L) (i : InitState) (far : Choosing PeerState)
+    → IsCutShort k target numbers from old i far old i far
 nothing_done k target numbers from old i far = record {
   front = λ linked links place there os. record {
     standing = walk_at by_client (next_of numbers from) i;

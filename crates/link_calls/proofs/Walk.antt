@@ -86,7 +86,8 @@ module _ {L F : Type 0} (k : Ghosts L) (target : L → TargetState) (linked : L 
       record {
         notes = notes;
         going = subst N (append-nil notes)
-            (far_goes_then k.machine linked t next (dep_next i p) rest (moment old) (moment new) (moment new) notes [] place os far after after (asks_same g w i) (λ ns. refl) (subst G o goes) (none_yet rest new after));
+            (far_goes_then k.machine linked t next (dep_next i p) rest (moment old) (moment new) (moment new) notes [] place os far after after (asks_same g w i) (λ ns. refl) (subst G o goes)
+            (none_yet rest new after));
         stands = carried_on g w (asks i p) notes q (subst Q o e) never;
       }
 
@@ -103,7 +104,8 @@ module _ {L F : Type 0} (k : Ghosts L) (target : L → TargetState) (linked : L 
       }
 
   module _ {C A : Type 0} (see : C → DepSeen L) (restarts : A → List ℕ → A → Type 0) (steps : A → List ℕ → List ℕ → A → Type 0) (stops : A → List ℕ → A → Type 0) (view : A → Choosing F)
-      (links : IsLinked k.machine linked) (fars : IsFarTable t) (kind : IsOfTable restarts steps t view) (swap : SwapsFar k target linked t restarts steps stops view) (stop : StopsFar k target linked t restarts steps stops view) where
+      (links : IsLinked k.machine linked) (fars : IsFarTable t) (kind : IsOfTable restarts steps t view) (swap : SwapsFar k target linked t restarts steps stops view)
+      (stop : StopsFar k target linked t restarts steps stops view) where
     abbrev Swaps : C → List ℕ → List FarStep → C → Type 0
     Swaps a out did b = dep_swaps k target (see a) out did (see b)
 
@@ -222,7 +224,8 @@ module _ {L F : Type 0} (k : Ghosts L) (target : L → TargetState) (linked : L 
           let d : List FarStep = Stopped out ∷ [] in
           subst Cut (sym memory) (stopped (stop links fars (see m) (see b) (record { out = out; did = d }) (subst X e one) out refl place there (view y) os) (subst M e moved).0)
 
-      pub cut : (e : EndCause) → WalkRests (λ c. dep_view (see c)) Swaps steps stops m y e b z ⊎ (WalkFails (λ c. dep_view (see c)) Swaps steps stops out m y e b z ⊎ WalkUnread (λ c. dep_view (see c)) Swaps steps stops out m y e b z) → Cut e
+      pub cut : (e : EndCause) → WalkRests (λ c. dep_view (see c)) Swaps steps stops m y e b z
+          ⊎ (WalkFails (λ c. dep_view (see c)) Swaps steps stops out m y e b z ⊎ WalkUnread (λ c. dep_view (see c)) Swaps steps stops out m y e b z) → Cut e
       cut e (inl c) = subst Cut (sym c.fault) (rested c.link_is c.far_is)
       cut e (inr (inl c)) = failed c.swapped.did c.swapped.link c.swapped.far_moved c.answered e c.swapped.tells c.over
       cut e (inr (inr c)) =

@@ -1,5 +1,6 @@
 -- What payloads come to that are carried over the open link of a field.
-use Rattle.std.proofs.Common.{◌≡◌, ◌⊎◌, ◌≤◌, ◌<◌, ℕ, zero, suc, List, [], ◌∷◌, ◌++◌, length, drop, Bool, true, false, Option, Some, None, refl, sym, ◌∙◌, ap, subst, inl, inr, arith, append_assoc, append-nil}
+use Rattle.std.proofs.Common.{◌≡◌, ◌⊎◌, ◌≤◌, ◌<◌, ℕ, zero, suc, List, [], ◌∷◌, ◌++◌, length, drop, Bool, true, false, Option, Some, None, refl, sym, ◌∙◌, ap, subst, inl, inr, arith, append_assoc}
+use Rattle.std.proofs.Common.{append-nil}
 use Rattle.nfc_base.specs.Choosing.{Choosing}
 use Rattle.nfc_base.specs.Trace.{noise}
 use Rattle.nfc_base.specs.Links.{AskedBy, BySwaps, FarMoved, FarStep, Stepped, Stopped, step_payload}
@@ -130,13 +131,15 @@ module _ {L C : Type 0} (k : Ghosts L) (target : L → TargetState) (see : C →
       carried from to walk =
           let first : (see b).first ≡ i.core.number = first_is walk.did b walk.swapped in
           let start : (see b).start ≡ length old.trace = start_is walk.did b walk.swapped in
-          let handed : brought (see b).first (since (see b)) ≡ payloads walk.did = handed_all walk.did from to a b walk.told walk.swapped ∙ ap (λ ps. ps ++ payloads walk.did) (none_yet k target (see a) old i is) in
+          let handed : brought (see b).first (since (see b)) ≡ payloads walk.did = handed_all walk.did from to a b walk.told walk.swapped
+          ∙ ap (λ ps. ps ++ payloads walk.did) (none_yet k target (see a) old i is) in
           record {
             at = see b;
             left = (refl, refl, walk.over ∙ opened);
             swaps = (chain walk.did a b walk.swapped).0;
             chain = subst (λ (p : DepSeen L). Chained k target (chain walk.did a b walk.swapped).0 p (see b)) is (chain walk.did a b walk.swapped).1;
-            arrives = arrives_so k target old i (see b) first start (payloads walk.did) far after handed (ran walk.did (told_whole walk.did from to a b walk.told walk.swapped) far after walk.far_moved);
+            arrives = arrives_so k target old i (see b) first start (payloads walk.did) far after handed
+                (ran walk.did (told_whole walk.did from to a b walk.told walk.swapped) far after walk.far_moved);
             counted = λ e. counted_so k target old i (see b) first start (ready (walk.over ∙ opened)).peer;
             setting = set_still walk.did far after walk.far_moved;
           }
@@ -259,13 +262,15 @@ module _ {L C : Type 0} (k : Ghosts L) (target : L → TargetState) (see : C →
               (came_all ∙ ap (λ ds. payloads walk.did ++ handed_of out ds) e) ran_before one.bytes (subst M e last).0)
 
         -- the last swap failed
-        last_left : (c : EndCause) (out : List ℕ) → (f : WalkFails (λ c. dep_view (see c)) Swaps (AnswersCounted serving) (StopsCounted serving) out mid half c b after) → (c ≡ cause.Memory → ⊥) → Left c
+        last_left : (c : EndCause) (out : List ℕ) → (f : WalkFails (λ c. dep_view (see c)) Swaps (AnswersCounted serving) (StopsCounted serving) out mid half c b after) → (c ≡ cause.Memory → ⊥)
+            → Left c
         last_left c out f calm = (
           record {
             at = see b;
             left = (refl, refl, f.over);
             swaps = (chain_to walk.did f.swapped.did out a mid b walk.swapped f.swapped.link).0;
-            chain = subst (λ (p : DepSeen L). Chained k target (chain_to walk.did f.swapped.did out a mid b walk.swapped f.swapped.link).0 p (see b)) is (chain_to walk.did f.swapped.did out a mid b walk.swapped f.swapped.link).1;
+            chain = subst (λ (p : DepSeen L). Chained k target (chain_to walk.did f.swapped.did out a mid b walk.swapped f.swapped.link).0 p (see b)) is
+                (chain_to walk.did f.swapped.did out a mid b walk.swapped f.swapped.link).1;
             arrives = last_arrives out f.swapped.did f.swapped.link f.swapped.far_moved f.answered c f.swapped.tells calm;
             counted = λ none. absurd (let over = f.over in cc);
             setting = set_still f.swapped.did half after f.swapped.far_moved ∙ set_still walk.did far half walk.far_moved;

@@ -1,4 +1,5 @@
--- What arrives at a link's peer, and what its end does by that (NFCIP-1, ISO/IEC 18092; NFC Forum LLCP 1.3 and SNEP 1.0).
+-- What arrives at a link's peer, and what its end does by that (NFCIP-1, ISO/IEC 18092; NFC Forum LLCP 1.3 and SNEP
+-- 1.0).
 use Rattle.std.specs.Prelude.{◌≡◌, ◌⊎◌, ℕ, List, [], ◌∷◌, ◌++◌}
 use Rattle.std.specs.List.{AllByRecursion}
 use Rattle.nfc_base.specs.Choosing.{Choosing, first_number, later_numbers}
@@ -22,7 +23,10 @@ answered payload count l = after_giving serving count (taken_from serving l payl
 abbrev pub all_answered : List (List ℕ) → Choosing PeerState → Choosing PeerState
 all_answered [] far = far
 all_answered (p ∷ ps) far =
-    all_answered ps (record { end = answered p (first_number far.numbers) far.end; numbers = later_numbers far.numbers })
+    all_answered ps (record {
+      end = answered p (first_number far.numbers) far.end;
+      numbers = later_numbers far.numbers;
+    })
 
 -- Some events brought payloads to a peer, counted from this PNI. Its end answered just them, in order, by its numbers:
 -- so it went from one state to another.
@@ -30,8 +34,8 @@ pub record Arrives (first : ℕ) (events : List Event) (far after : Choosing Pee
   pub bytes : AllByRecursion AreBytes (brought first events)
   pub after_is : after ≡ all_answered (brought first events) far
 
--- As some events brought payloads to a peer, counted from this PNI, its end answered all before the last, and as it took
--- the last it stopped for want of memory.
+-- As some events brought payloads to a peer, counted from this PNI, its end answered all before the last, and as it
+-- took the last it stopped for want of memory.
 pub record StopsAtLast (first : ℕ) (events : List Event) (far after : Choosing PeerState) : Type 0 where
   pub bytes : AllByRecursion AreBytes (brought first events)
   pub before : List (List ℕ)
@@ -45,4 +49,5 @@ ArrivesCut first events far after = Arrives first events far after ⊎ StopsAtLa
 
 -- Behind these events, counted from that PNI, this PNI is next, and no piece of a payload came.
 abbrev pub IsCountedTo : ℕ → List Event → ℕ → Type 0
-IsCountedTo first events next = cut_by (begins first) (frames_of (arrived events)) ≡ record { next = next; chain = []; payloads = brought first events }
+IsCountedTo first events next = cut_by (begins first) (frames_of (arrived events))
+    ≡ record { next = next; chain = []; payloads = brought first events }

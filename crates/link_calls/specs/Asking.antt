@@ -1,14 +1,15 @@
 -- What is asked on an open link: a call, or that the link is closed (NFC Forum LLCP 1.3 and SNEP 1.0).
 use Rattle.std.specs.Prelude.{◌≤◌, ◌<◌, ℕ, length, List, [], ◌∷◌, Bool, true, false}
 use Rattle.snep_core.specs.Slots.{slot_count}
-use Rattle.snep_core.specs.Talk.{EndState, Step, Task, Puts, Gets, Finds, Leaves, begins, begins_all, begins_from, sap_of_slot}
+use Rattle.snep_core.specs.Talk.{EndState, Step, Task, Puts, Gets, Finds, Leaves, begins, begins_all, begins_from}
+use Rattle.snep_core.specs.Talk.{sap_of_slot}
 use Rattle.link_calls.specs.AtOnce.{AreApart, puts_at_once}
 use Rattle.link_calls.specs.declared.request.LinkRequest.{LinkRequest}
 use Rattle.link_calls.specs.declared.request.LinkRequest.TheVariants.{Put, Get, Lookup, Run, Close}
 use Rattle.link_calls.specs.declared.request.SlotMessage.{SlotMessage}
 
--- A call: messages that are put at once, each from its slot, and told of in this order; a value is got, of at most so many bytes, on
--- the connection from a SAP; or a service is looked up by its name.
+-- A call: messages that are put at once, each from its slot, and told of in this order; a value is got, of at most so
+-- many bytes, on the connection from a SAP; or a service is looked up by its name.
 pub data Call : Type 0 where
   Putting : List SlotMessage → Call
   Getting : ℕ → ℕ → List ℕ → Call

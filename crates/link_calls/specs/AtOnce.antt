@@ -1,5 +1,6 @@
--- Messages that are put at once on an open link, each from the slot that it names: what is put, and what a peer that serves as this
--- project's server does accepts of it (NFC Forum SNEP 1.0; that a client has slots is this project's own).
+-- Messages that are put at once on an open link, each from the slot that it names: what is put, and what a peer that
+-- serves as this project's server does accepts of it (NFC Forum SNEP 1.0; that a client has slots is this project's
+-- own).
 use Rattle.std.specs.Prelude.{◌≡◌, ◌<◌, ◌≤◌, ◌==◌, ◌||◌, ℕ, Bool, false, List, [], ◌∷◌, ◌++◌, length, Result, Ok, Err}
 use Rattle.snep_core.specs.declared.fault.SnepFault.{SnepFault}
 use Rattle.snep_core.specs.declared.fault.SnepFault.TheVariants.{LinkEnded, Memory}
@@ -9,7 +10,8 @@ use Rattle.snep_core.specs.Accord.{Accords, AddsFrom, PeerState, WasAdded, WasRe
 use Rattle.snep_core.specs.Payloads.{accepted_from}
 use Rattle.snep_core.specs.Server.{Received}
 use Rattle.snep_core.specs.declared.slot.Slot.{Slot}
-use Rattle.snep_core.specs.Slots.{NoneStaged, all_puts, fresh_slots, job_from, most_staged, slot_count, staged_on, outcome_told}
+use Rattle.snep_core.specs.Slots.{NoneStaged, all_puts, fresh_slots, job_from, most_staged, slot_count, staged_on}
+use Rattle.snep_core.specs.Slots.{outcome_told}
 use Rattle.snep_core.specs.declared.job.OnSap.{OnSap}
 use Rattle.snep_core.specs.Talk.{EndState, TaskOn, sap_of_slot}
 use Rattle.link_calls.specs.declared.request.SlotMessage.{SlotMessage}
@@ -36,7 +38,8 @@ is_from s (w ∷ ws) = (sap_of_slot w.slot == s) || is_from s ws
 -- each names one of eight slots, no two the same, and none is longer than 65,536 bytes
 abbrev pub AreApart : List SlotMessage → Type 0
 AreApart [] = Unit {0}
-AreApart (w ∷ ws) = (w.slot < slot_count) × (length w.message ≤ most_staged) × (is_from (sap_of_slot w.slot) ws ≡ false) × AreApart ws
+AreApart (w ∷ ws) = (w.slot < slot_count) × (length w.message ≤ most_staged) × (is_from (sap_of_slot w.slot) ws ≡ false)
+    × AreApart ws
 
 -- something holds of each slot and its message
 abbrev pub EachOf : (ℕ → List ℕ → Type 0) → List SlotMessage → Type 0
@@ -47,8 +50,8 @@ EachOf Is (w ∷ ws) = Is w.slot w.message × EachOf Is ws
 abbrev pub told_on : List OnSap → ℕ → Outcome
 told_on jobs slot = outcome_told (job_from (sap_of_slot slot) jobs)
 
--- What a peer accepted of a message, by what is told of it: it was added, once, and is within the limit; it wasn't, and is beyond
--- it; or it isn't answered, and was added once or not at all.
+-- What a peer accepted of a message, by what is told of it: it was added, once, and is within the limit; it wasn't, and
+-- is beyond it; or it isn't answered, and was added once or not at all.
 abbrev pub PutSo : Outcome → ℕ → List ℕ → PeerState → List Received → Type 0
 PutSo outcomes.Success sap m old now = WasAdded sap m old now
 PutSo outcomes.Rejected sap m old now = WasRejected sap m old now
@@ -58,20 +61,22 @@ PutSo outcomes.NoMessage sap m old now = AddsFrom sap m old now
 -- So it is of each of them. From no other SAP anything was added, and nothing was taken away.
 pub record AllPut (told : ℕ → Outcome) (ws : List SlotMessage) (old new : PeerState) : Type 0 where
   pub each : EachOf (λ slot m. PutSo (told slot) (sap_of_slot slot) m old new.service.accepted) ws
-  pub others : (s : ℕ) → is_from s ws ≡ false → accepted_from s new.service.accepted ≡ accepted_from s old.service.accepted
+  pub others : (s : ℕ) → is_from s ws ≡ false → accepted_from s new.service.accepted
+      ≡ accepted_from s old.service.accepted
   pub more : List Received
   pub grew : new.service.accepted ≡ old.service.accepted ++ more
 
 -- All were answered: the peer's limit, its table for get and its names are as before, and client and peer accord again.
-pub record AllAnswered (jobs : List OnSap) (ws : List SlotMessage) (old : PeerState) (client : EndState) (new : PeerState) : Type 0 where
+pub record AllAnswered (jobs : List OnSap) (ws : List SlotMessage) (old : PeerState) (client : EndState)
+    (new : PeerState) : Type 0 where
   pub puts : AllPut (told_on jobs) ws old new
   pub limit : new.service.limit ≡ old.service.limit
   pub table : new.service.table ≡ old.service.table
   pub bound : new.bound ≡ old.bound
   pub accords : Accords client new
 
--- What messages put at once did at a peer with which the client accorded, by what they came to: all were answered; or the link
--- ended, or memory was wanting, and each was added once or not at all.
+-- What messages put at once did at a peer with which the client accorded, by what they came to: all were answered; or
+-- the link ended, or memory was wanting, and each was added once or not at all.
 abbrev pub ServedAtOnce : List SlotMessage → PeerState → Result (List OnSap) SnepFault → EndState → PeerState → Type 0
 ServedAtOnce ws old (Ok jobs) client new = AllAnswered jobs ws old client new
 ServedAtOnce ws old (Err (LinkEnded c)) client new = AllPut (λ slot. outcomes.Staged) ws old new

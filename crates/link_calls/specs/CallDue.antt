@@ -7,11 +7,12 @@ use Rattle.dep_link.specs.Initiator.{InitState}
 use Rattle.dep_link.specs.Asking.{Standing}
 use Rattle.nfc_base.specs.Choosing.{first_number, later_numbers}
 use Rattle.snep_core.specs.Talk.{Step, Goes, Ends, GivesUp, Working, payload, replied}
-use Rattle.link_calls.specs.Walk.{Course, Giver, Underway, Through, Walk, walk_at, walk_carried, walk_noted, walk_on, walk_due_at, walk_stand, walk_due}
+use Rattle.link_calls.specs.Walk.{Course, Giver, Underway, Through, Walk, walk_at, walk_carried, walk_noted, walk_on}
+use Rattle.link_calls.specs.Walk.{walk_due_at, walk_stand, walk_due}
 pub use Rattle.link_calls.specs.Walk.{Carries, Comes, BrokenBy, Strays}
 
--- A call that is under way, with the numbers that are left, of which the first is how many PDUs its payload has. Where there is none left it is
--- 0, which is as many as fit.
+-- A call that is under way, with the numbers that are left, of which the first is how many PDUs its payload has. Where
+-- there is none left it is 0, which is as many as fit.
 abbrev pub OnCall : Type 0
 OnCall = Working × List ℕ
 
@@ -47,7 +48,8 @@ call_on c ns = walk_on by_client c ns
 abbrev pub call_due_at : CallStanding → Next
 call_due_at c = walk_due_at c
 
--- where a call stands that began with this step, on a link whose initiator stood so, once this was heard; and what is due then
+-- where a call stands that began with this step, on a link whose initiator stood so, once this was heard; and what is
+-- due then
 abbrev pub call_stand : List ℕ → Step → InitState → List Note → CallStanding
 call_stand ns from i notes = walk_stand by_client (next_of ns from) i notes
 

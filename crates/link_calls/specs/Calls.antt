@@ -23,7 +23,8 @@ pub use Rattle.link_calls.specs.Carrying.{IsOpen, IsCarried}
 module _ {L : Type 0} (k : Ghosts L) (target : L → TargetState) where
   -- A call on an open link, from a moment of the field, its initiator and its peer's end to others. These numbers say
   -- how many PDUs each of its payloads has, and those that are left to the peer's end the same of its replies.
-  module _ (numbers : List ℕ) (from : Step) (old : Air L) (i : InitState) (far : Choosing PeerState) (new : Air L) (j : InitState) (after : Choosing PeerState) where
+  module _ (numbers : List ℕ) (from : Step) (old : Air L) (i : InitState) (far : Choosing PeerState) (new : Air L)
+      (j : InitState) (after : Choosing PeerState) where
     -- In the world with the far ends of peers, at the place of this one, each of its requests was due, and what was
     -- heard brought it to where it stands so.
     abbrev pub CallComes : CallStanding → Type 0
@@ -57,4 +58,5 @@ module _ {L : Type 0} (k : Ghosts L) (target : L → TargetState) where
     -- A request on the connection from a SAP failed: it was refused, the far end was given up, or it was cut off.
     abbrev pub RequestFails : ℕ → EndState → SnepFault → Type 0
     RequestFails sap client e =
-        ((why : Refusal) × (e ≡ refused_by why) × IsMade (Ends (one_on sap (Over (Refused why))) client)) ⊎ CallFails client e
+        ((why : Refusal) × (e ≡ refused_by why) × IsMade (Ends (one_on sap (Over (Refused why))) client))
+        ⊎ CallFails client e

@@ -1,5 +1,5 @@
--- What is due while a client's connection is ended and its link released: behind the call RLS_REQ is sent once, and whatever is heard of
--- it is passed over, but that the field was lost (NFCIP-1, ISO/IEC 18092).
+-- What is due while a client's connection is ended and its link released: behind the call RLS_REQ is sent once, and
+-- whatever is heard of it is passed over, but that the field was lost (NFCIP-1, ISO/IEC 18092).
 use Rattle.std.specs.Prelude.{ℕ, List, [], ◌∷◌}
 use Rattle.nfc_base.specs.declared.carrier.EndCause.TheVariants.{FieldLost}
 use Rattle.air_core.specs.Conversation.{Note, Lit, Got, Lost, Next, Over, Asks}
@@ -8,8 +8,8 @@ use Rattle.dep_link.specs.Releasing.{rls_frame}
 use Rattle.snep_core.specs.Talk.{Step, Goes, Ends, GivesUp}
 use Rattle.link_calls.specs.CallDue.{CallStanding, Carries, Comes, BrokenBy, Strays, call_at, call_noted, call_due_at}
 
--- Where it stands: its call stands so, or it is over as a call is; or the call came to this step, behind which RLS_REQ is due, or was
--- sent.
+-- Where it stands: its call stands so, or it is over as a call is; or the call came to this step, behind which RLS_REQ
+-- is due, or was sent.
 pub data ClosingStanding : Type 0 where
   Calls : CallStanding → ClosingStanding
   Releasing : Step → ClosingStanding

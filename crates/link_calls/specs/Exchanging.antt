@@ -1,5 +1,5 @@
--- Payloads that were written by hand, and are sent as they are, one for each reply: what is due while they are exchanged with a peer, by what
--- was heard (NFCIP-1, ISO/IEC 18092).
+-- Payloads that were written by hand, and are sent as they are, one for each reply: what is due while they are
+-- exchanged with a peer, by what was heard (NFCIP-1, ISO/IEC 18092).
 use Rattle.std.specs.Prelude.{◌≤◌, ℕ, List, [], ◌∷◌, ◌++◌, length}
 use Rattle.std.specs.List.{All}
 use Rattle.air_core.specs.Conversation.{Note, Next}
@@ -24,7 +24,8 @@ by_hand = record {
   told = λ s reply. sending s.later (s.replies ++ reply ∷ []);
 }
 
--- where payloads stand that are exchanged, on a link whose initiator stood so, once this was heard; and what is due then
+-- where payloads stand that are exchanged, on a link whose initiator stood so, once this was heard; and what is due
+-- then
 abbrev pub exchanging_stand : List (List ℕ) → InitState → List Note → Walk Sending (List (List ℕ))
 exchanging_stand payloads i notes = walk_stand by_hand (sending payloads []) i notes
 

@@ -14,4 +14,10 @@ pub record Setting : Type 0 where
   pub table : List Offer
 
 abbrev pub setting_of : PeerState → Setting
-setting_of l = record { miu = l.miu; window = l.window; bound = l.bound; limit = l.service.limit; table = l.service.table }
+setting_of l = record {
+  miu = l.miu;
+  window = l.window;
+  bound = l.bound;
+  limit = l.service.limit;
+  table = l.service.table;
+}

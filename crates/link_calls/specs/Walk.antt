@@ -1,5 +1,6 @@
--- What is due while payloads are carried over a link to a peer, one after the other, by what was heard of them: each payload is one exchange of
--- NFC-DEP, and whoever gives them says by its reply what comes next (NFCIP-1, ISO/IEC 18092).
+-- What is due while payloads are carried over a link to a peer, one after the other, by what was heard of them: each
+-- payload is one exchange of NFC-DEP, and whoever gives them says by its reply what comes next (NFCIP-1, ISO/IEC
+-- 18092).
 use Rattle.std.specs.Prelude.{ℕ, List, [], ◌∷◌}
 use Rattle.nfc_base.specs.declared.carrier.EndCause.{EndCause}
 use Rattle.air_core.specs.Conversation.{Note, Next, Over}
@@ -11,13 +12,14 @@ pub data Course (W E : Type 0) : Type 0 where
   Underway : W → Course W E
   Through : E → Course W E
 
--- Who gives the payloads: the payload of what is under way, and what its reply makes of it: something that goes on, or what all of it came to.
+-- Who gives the payloads: the payload of what is under way, and what its reply makes of it: something that goes on, or
+-- what all of it came to.
 pub record Giver (W E : Type 0) : Type 0 where
   pub gives : W → List ℕ
   pub told : W → List ℕ → Course W E
 
--- Where it stands: the payload of what is under way is carried in an exchange that stands so; it came to its end, where the initiator
--- rests; its link ended by a fault; or something was heard that belongs to no exchange.
+-- Where it stands: the payload of what is under way is carried in an exchange that stands so; it came to its end, where
+-- the initiator rests; its link ended by a fault; or something was heard that belongs to no exchange.
 pub data Walk (W E : Type 0) : Type 0 where
   Carries : W → Standing → Walk W E
   Comes : E → InitState → Walk W E

@@ -8,7 +8,8 @@ ghost use Rattle.snep_core.specs.declared.fault.SnepFault.{SnepFault};
 ghost use Rattle.snep_core.specs.declared.job.Ending.TheVariants.{Done, Sap, Value};
 ghost use Rattle.snep_core.specs.declared.job.Job.TheVariants.{Over};
 ghost use Rattle.snep_core.specs.Slots.{is_staged_at, put_alone};
-ghost use Rattle.snep_core.specs.Talk.{Ends, Finds, Gets, Puts, alone, begins, begins_from, client_sap, one_on, sap_of_slot};
+ghost use Rattle.snep_core.specs.Talk.{Ends, Finds, Gets, Puts, alone, begins, begins_from, client_sap, one_on};
+ghost use Rattle.snep_core.specs.Talk.{sap_of_slot};
 ghost use Rattle.link_calls.specs.Asking.{MayAsk};
 ghost use Rattle.link_calls.specs.AtOnce.{IsAtRest};
 ghost use Rattle.link_calls.specs.Called.{Called, came_to};
@@ -68,14 +69,17 @@ pub fn get_on<L: PeerListener>(
     requires going { client.old.spent ≡ false }
     requires slot { slot < 8 }
     requires key { length key.now ≤ 65536 }
-    ensures ok { IfOk result (λ value. IsMade L.Listener L.target counts (begins_from client.old.llc (sap_of_slot slot) (Gets acceptable key.now))
+    ensures ok { IfOk result (λ value. IsMade L.Listener L.target counts
+        (begins_from client.old.llc (sap_of_slot slot) (Gets acceptable key.now))
         field.old initiator.old far.old field.new initiator.new far.new (Ends (one_on (sap_of_slot slot) (Over (Value value.items))) client.new.llc)) }
     ensures going { OnOk result (client.new.spent ≡ false) }
-    ensures err { IfErr result (λ e. RequestFails L.Listener L.target counts (begins_from client.old.llc (sap_of_slot slot) (Gets acceptable key.now))
+    ensures err { IfErr result (λ e. RequestFails L.Listener L.target counts
+        (begins_from client.old.llc (sap_of_slot slot) (Gets acceptable key.now))
         field.old initiator.old far.old field.new initiator.new far.new (sap_of_slot slot) client.new.llc e) }
     ensures spent { IfErr result (λ e. client.new.spent ≡ is_memory e) }
     ensures value { Accords client.old.llc far.old.end
-        → IfOk result (λ value. IsGot (sap_of_slot slot) acceptable key.now value.items far.old.end client.new.llc far.new.end) }
+        → IfOk result (λ value. IsGot (sap_of_slot slot) acceptable key.now value.items far.old.end client.new.llc
+        far.new.end) }
     ensures fails { Accords client.old.llc far.old.end
         → IfErr result (λ e. GetFails (sap_of_slot slot) acceptable key.now far.old.end e client.new.llc far.new.end) }
     ensures slots { client.new.slots ≡ client.old.slots }
@@ -132,8 +136,8 @@ fn refused_or_failed(fault: SnepFault) -> Result<Ending, SnepFault>
     }
 }
 
-/// Asks for what a request says, where no message waits on the client's slots. Behind a closing the link is over; a refusal is
-/// an ending, and no fault. Of messages that are put at once each slot tells how its own ended.
+/// Asks for what a request says, where no message waits on the client's slots. Behind a closing the link is over; a
+/// refusal is an ending, and no fault. Of messages that are put at once each slot tells how its own ended.
 pub fn call_on<L: PeerListener>(
     field: &mut Field<L>,
     initiator: &mut Initiator,

@@ -45,8 +45,8 @@ fn swap_each<C: Carrier, A: Answerer>(
     Ok(Items::new(replies))
 }
 
-/// Exchanges payloads of at most 2,178 bytes with the peer of an open link, one after the other, as they are, and gives the reply to each. Where
-/// memory is wanting the link is left as it is then.
+/// Exchanges payloads of at most 2,178 bytes with the peer of an open link, one after the other, as they are, and gives
+/// the reply to each. Where memory is wanting the link is left as it is then.
 pub fn exchange_all<L: PeerListener>(
     alloc: Global,
     field: &mut Field<L>,

@@ -1,6 +1,8 @@
--- How many PDUs stand in each payload of a link, read off the events of a command: payloads are cut as at the ends (NFCIP-1, ISO/IEC
--- 18092), PDUs stand in them as LLCP joins them (NFC Forum LLCP 1.3); that their numbers are read off is this project's own.
-use Rattle.std.specs.Prelude.{◌≡◌, ℕ, zero, suc, ◌+◌, ◌*◌, ◌<◌, ◌≤◌, ◌==◌, ◌&&◌, ◌⊎◌, nat_le, nat_lt, Bool, true, false, if◌then◌else◌, List, [], ◌∷◌, ◌++◌, length, drop, map, Option, Some, None}
+-- How many PDUs stand in each payload of a link, read off the events of a command: payloads are cut as at the ends
+-- (NFCIP-1, ISO/IEC 18092), PDUs stand in them as LLCP joins them (NFC Forum LLCP 1.3); that their numbers are read off
+-- is this project's own.
+use Rattle.std.specs.Prelude.{◌≡◌, ℕ, zero, suc, ◌+◌, ◌*◌, ◌<◌, ◌≤◌, ◌==◌, ◌&&◌, ◌⊎◌, nat_le, nat_lt, Bool, true, false}
+use Rattle.std.specs.Prelude.{if◌then◌else◌, List, [], ◌∷◌, ◌++◌, length, drop, map, Option, Some, None}
 use Rattle.std.specs.List.{filter}
 use Rattle.nfc_base.specs.Signal.{Signal}
 use Rattle.nfc_base.specs.declared.event.Event.{Event}
@@ -20,8 +22,8 @@ use Rattle.llcp_pdu.specs.Spelling.{LlcpSpelling}
 use Rattle.llcp_pdu.specs.Wire.{agf_type}
 use Rattle.llcp_pdu.specs.Writing.{part_bytes, pdu_bytes}
 
--- The frames that an initiator sent, and those that a target sent, whatever became of them. Of a clash there are the first bits
--- of several answers, which nobody sent.
+-- The frames that an initiator sent, and those that a target sent, whatever became of them. Of a clash there are the
+-- first bits of several answers, which nobody sent.
 abbrev pub requests_of : List Event → List Signal
 requests_of [] = []
 requests_of (Reset ∷ es) = requests_of es
@@ -41,8 +43,9 @@ abbrev pub heads_agf : Option RawHeader → Bool
 heads_agf None = false
 heads_agf (Some h) = (h.dsap == 0) && (h.ptype == agf_type) && (h.ssap == 0)
 
--- How many PDUs stand behind the header of an AGF, each behind two bytes with its length, high byte first: so many before, and those
--- in what follows the first so many bytes. None where the last one is cut short. Only lengths are looked at.
+-- How many PDUs stand behind the header of an AGF, each behind two bytes with its length, high byte first: so many
+-- before, and those in what follows the first so many bytes. None where the last one is cut short. Only lengths are
+-- looked at.
 abbrev pub counted : ℕ → List ℕ → ℕ → ℕ
 counted n [] zero = n
 counted n [] (suc m) = 0
@@ -58,13 +61,13 @@ several n = if n == 1 then 0 else n
 abbrev pub parts_of : List ℕ → ℕ
 parts_of b = if heads_agf (raw b) then several (counted 0 (drop 2 b) 0) else 1
 
--- The number of a payload of which some came, where that wasn't all: as many as fit, which is 0, where it begins with the header of
--- an AGF, else one.
+-- The number of a payload of which some came, where that wasn't all: as many as fit, which is 0, where it begins with
+-- the header of an AGF, else one.
 abbrev pub number_begun : List ℕ → ℕ
 number_begun b = if heads_agf (raw b) then 0 else 1
 
--- The number of a whole payload. Of one that is longer than a payload may be it is as if not all of it came, and so it is of an AGF
--- that isn't one of several PDUs.
+-- The number of a whole payload. Of one that is longer than a payload may be it is as if not all of it came, and so it
+-- is of an AGF that isn't one of several PDUs.
 abbrev pub number : List ℕ → ℕ
 number b = if nat_le (length b) limit then parts_of b else number_begun b
 
@@ -84,7 +87,8 @@ pieces_of fs = filter has_content (frames_of fs)
 abbrev pub numbers : Cut → List ℕ
 numbers c = map number c.payloads ++ cut_off c.chain
 
--- The numbers of the payloads that the initiator's frames carried, and of those that a target's did, counted from this PNI.
+-- The numbers of the payloads that the initiator's frames carried, and of those that a target's did, counted from this
+-- PNI.
 abbrev pub own_shown : ℕ → List Event → List ℕ
 own_shown first es = numbers (cut_by (begins first) (pieces_of (requests_of es)))
 

@@ -1,5 +1,7 @@
--- What a walk over events keeps of what an end sent, for private calls: no public contract speaks of it, the rule is Shown.antt.
-use Rattle.std.specs.Prelude.{ℕ, ◌+◌, ◌==◌, ◌&&◌, nat_lt, length, Bool, true, false, not, if◌then◌else◌, List, [], ◌∷◌, ◌++◌, take, Option, Some, None}
+-- What a walk over events keeps of what an end sent, for private calls: no public contract speaks of it, the rule is
+-- Shown.antt.
+use Rattle.std.specs.Prelude.{ℕ, ◌+◌, ◌==◌, ◌&&◌, nat_lt, length, Bool, true, false, not, if◌then◌else◌, List, [], ◌∷◌}
+use Rattle.std.specs.Prelude.{◌++◌, take, Option, Some, None}
 use Rattle.nfc_base.specs.Signal.{Signal}
 use Rattle.dep_pdu.specs.declared.frame.DepFrame.{DepFrame}
 use Rattle.dep_pdu.specs.declared.frame.DepFrame.TheVariants.{Info, Ack}
@@ -39,7 +41,8 @@ is_from false up = not up
 
 -- a frame that the end sent
 abbrev pub sent_one : Bool → Sent → DepFrame → Sent
-sent_one end s (Info up more pni content) = if is_from end up && nat_lt 0 (length content.items) then took s more pni content.items else s
+sent_one end s (Info up more pni content) = if is_from end up && nat_lt 0 (length content.items)
+    then took s more pni content.items else s
 sent_one end s (Ack up pni) = if is_from end up then passed s pni else s
 sent_one end s _ = s
 

@@ -1,7 +1,8 @@
 //! The numbers of both ends of a link.
 
 ghost use Rattle.std.specs.Prelude.{◌≡◌, IfOk};
-ghost use Rattle.link_numbers.specs.Shown.{CountsBehind, CountsSpelled, CountsWritten, NoneHeadsAgf, far_shown, own_shown};
+ghost use Rattle.link_numbers.specs.Shown.{CountsBehind, CountsSpelled, CountsWritten, NoneHeadsAgf, far_shown};
+ghost use Rattle.link_numbers.specs.Shown.{own_shown};
 
 use crate::side::Side;
 use nfc_base::Event;

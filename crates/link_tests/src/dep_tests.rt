@@ -169,7 +169,8 @@ fn a_busy_target_asks_for_more_time(rt: HostRuntime) -> Result<(), Fail> {
     walk_target(&rt, &mut target, &rows)
 }
 
-/// Its one piece waits for the time to be granted, and comes behind information that goes on, which asks for no more time.
+/// Its one piece waits for the time to be granted, and comes behind information that goes on, which asks for no more
+/// time.
 #[test]
 fn an_empty_reply_has_one_piece(rt: HostRuntime) -> Result<(), Fail> {
     const ROWS: [Row; 7] = [
@@ -367,13 +368,13 @@ fn exchange<R: Abort>(
     Ok(End::FieldLost)
 }
 
-/// A payload and a reply of these sizes, the frames of at most 61 bytes that they take, and how often the target asks for
-/// more time.
+/// A payload and a reply of these sizes, the frames of at most 61 bytes that they take, and how often the target asks
+/// for more time.
 type Sizes = (usize, usize, u32, u32, u8);
 
-/// Whether an exchange went as the law has it: the payload was handed over at most once, and exactly once where its reply
-/// came; with so many pieces out and back, K extensions and b bad receptions, at most 2 (out + back - 1) + 2 K + 4 b
-/// transmissions; and no more is asked for time than K times and once for each bad reception.
+/// Whether an exchange went as the law has it: the payload was handed over at most once, and exactly once where its
+/// reply came; with so many pieces out and back, K extensions and b bad receptions, at most 2 (out + back - 1) + 2 K +
+/// 4 b transmissions; and no more is asked for time than K times and once for each bad reception.
 fn is_lawful(course: &Course, end: End, sizes: &Sizes) -> bool {
     let once = match end {
         End::Replied => course.handed == 1,

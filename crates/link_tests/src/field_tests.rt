@@ -12,8 +12,8 @@ use std::alloc::{AllocError, Global};
 use std::process::Abort;
 use std::test::Fail;
 
-/// A far end that answers a CONNECT by a CC, a put by its success, what begins with 00h by itself and all else by nothing, and gives
-/// up at a byte FFh.
+/// A far end that answers a CONNECT by a CC, a put by its success, what begins with 00h by itself and all else by
+/// nothing, and gives up at a byte FFh.
 #[derive(Drop)]
 struct Desk {
     links: u32,
@@ -241,7 +241,8 @@ fn lost_at(rt: &impl Abort, alloc: Global, at: usize) -> Result<(), Fail> {
     )
 }
 
-/// Two pieces go out and two come back: six transmissions. The payload is handed over as its second piece arrives, which is the third.
+/// Two pieces go out and two come back: six transmissions. The payload is handed over as its second piece arrives,
+/// which is the third.
 #[test]
 fn the_field_lost_at_each_transmission(rt: HostRuntime) -> Result<(), Fail> {
     for at in 0..7usize {
@@ -250,8 +251,8 @@ fn the_field_lost_at_each_transmission(rt: HostRuntime) -> Result<(), Fail> {
     Ok(())
 }
 
-/// What a swap answers on a link that is made over this field with an initiator that is new, or that refused a frame, and how many
-/// events there are then.
+/// What a swap answers on a link that is made over this field with an initiator that is new, or that refused a frame,
+/// and how many events there are then.
 fn swapped_on(
     alloc: Global,
     field: &mut Field<Phone>,

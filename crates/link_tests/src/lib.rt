@@ -1,8 +1,8 @@
 //! A phone in memory, and the tests of `dep_link` and `link_calls` that use it.
 //!
-//! `phone` is a device with a target under a far end. `meeting` is what the tests of a field with one have in common. Nothing
-//! but tests uses this crate. It is one of its own since a crate with tests is proved a second time with them, and both crates
-//! would have `phone` twice.
+//! `phone` is a device with a target under a far end. `meeting` is what the tests of a field with one have in common.
+//! Nothing but tests uses this crate. It is one of its own since a crate with tests is proved a second time with them,
+//! and both crates would have `phone` twice.
 #![tactic(auto)]
 
 mod phone;

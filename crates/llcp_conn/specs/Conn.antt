@@ -1,6 +1,7 @@
--- One end of a numbered connection (NFC Forum LLCP 1.3): what it submits, takes and gives. Which of several faults closes it is
--- this project's own.
-use Rattle.std.specs.Prelude.{◌≡◌, ◌<◌, ◌≤◌, ℕ, ◌+◌, ◌-◌, ◌*◌, ◌%◌, ◌==◌, nat_lt, Bool, true, false, List, [], ◌∷◌, ◌++◌, length, drop, Option, Some, None, is_some, option_map, if◌then◌else◌}
+-- One end of a numbered connection (NFC Forum LLCP 1.3): what it submits, takes and gives. Which of several faults
+-- closes it is this project's own.
+use Rattle.std.specs.Prelude.{◌≡◌, ◌<◌, ◌≤◌, ℕ, ◌+◌, ◌-◌, ◌*◌, ◌%◌, ◌==◌, nat_lt, Bool, true, false, List, [], ◌∷◌}
+use Rattle.std.specs.Prelude.{◌++◌, length, drop, Option, Some, None, is_some, option_map, if◌then◌else◌}
 use Rattle.llcp_pdu.specs.declared.part.Part.{Part}
 use Rattle.llcp_pdu.specs.declared.part.Part.TheVariants.{Symm, Ui, Connect, Disc, Cc, Dm, Frmr, Snl, Info, Rr, Rnr}
 use Rattle.llcp_pdu.specs.declared.part.FrmrReport.{FrmrReport}
@@ -28,10 +29,10 @@ most_window = 15
 abbrev pub count_end : ℕ
 count_end = 4294967296
 
--- An end from the SAP here to the SAP there: the most bytes of a unit that it takes, and that the other end takes; the other end's
--- window; the units that are submitted and not given, and those that are given and not acknowledged; V(SA), V(R) and V(RA);
--- whether an acknowledgement is owed, whether an RNR was taken after the last RR, and whether it is open; and how many units
--- were acknowledged.
+-- An end from the SAP here to the SAP there: the most bytes of a unit that it takes, and that the other end takes; the
+-- other end's window; the units that are submitted and not given, and those that are given and not acknowledged; V(SA),
+-- V(R) and V(RA); whether an acknowledgement is owed, whether an RNR was taken after the last RR, and whether it is
+-- open; and how many units were acknowledged.
 pub record ConnState : Type 0 where
   pub here : ℕ
   pub there : ℕ
@@ -86,7 +87,8 @@ fresh here there near_miu far_miu far_rw =
 
 -- why a unit of this length isn't submitted, if it isn't: the connection closed, then its size, then the window
 abbrev pub refusal_of : ConnState → ℕ → Option ConnFault
-refusal_of c n = if c.live then (if nat_lt c.far_miu n then Some TooLong else (if has_room c then None else Some WindowFull)) else Some NotOpen
+refusal_of c n = if c.live then (if nat_lt c.far_miu n then Some TooLong
+    else (if has_room c then None else Some WindowFull)) else Some NotOpen
 
 abbrev pub refusal_to_submit : ConnState → List ℕ → Option ConnFault
 refusal_to_submit c u = refusal_of c (length u)
@@ -132,10 +134,21 @@ flag_s = 0x10
 
 -- what is reported of a PDU of this type and sequence byte, with the numbers of the end before it
 abbrev pub report : ConnState → ℕ → ℕ → ℕ → FrmrReport
-report c flag ptype sequence = record { flags = flag; ptype = ptype; sequence = sequence; vs = vs c; vr = c.vr; vsa = c.vsa; vra = c.vra }
+report c flag ptype sequence = record {
+  flags = flag;
+  ptype = ptype;
+  sequence = sequence;
+  vs = vs c;
+  vr = c.vr;
+  vsa = c.vsa;
+  vra = c.vra;
+}
 
 abbrev pub closes : ConnState → ℕ → ℕ → ℕ → Took
-closes c flag ptype sequence = record { conn = record c { live = false }; does = taken.Closed (report c flag ptype sequence) }
+closes c flag ptype sequence = record {
+  conn = record c { live = false };
+  does = taken.Closed (report c flag ptype sequence);
+}
 
 -- an N(R) is outside V(SA) to V(S)
 abbrev pub is_outside : ConnState → ℕ → Bool

@@ -1,9 +1,13 @@
 //! One end of a connection.
 
-ghost use Rattle.std.specs.Prelude.{◌≡◌, ◌<◌, ◌≤◌, ◌⊎◌, length, drop, true, false, option_map, option_copied, Some, None, IfOk, IfErr, OnOk, OnErr};
+ghost use Rattle.std.specs.Prelude.{◌≡◌, ◌<◌, ◌≤◌, ◌⊎◌, length, drop, true, false, option_map, option_copied, Some};
+ghost use Rattle.std.specs.Prelude.{None, IfOk, IfErr, OnOk, OnErr};
 ghost use Rattle.circular_buffer.specs.Buffer.{buffer};
 ghost use Rattle.llcp_pdu.specs.General.{IsMiu};
-ghost use Rattle.llcp_conn.specs.Conn.{fresh, refusal_to_submit, refusal_of, shared, queued, Queues, took, takes, takes_view, takes_unit, takes_nr, gave, gives, gives_from, gives_ack, first, closes, numbers, has_room, has_waiting, due, acks, is_outside, acknowledged, IsOfConn, IsViewOfConn, IsSap, IsWindow};
+ghost use Rattle.llcp_conn.specs.Conn.{fresh, refusal_to_submit, refusal_of, shared, queued, Queues, took, takes};
+ghost use Rattle.llcp_conn.specs.Conn.{takes_view, takes_unit, takes_nr, gave, gives, gives_from, gives_ack, first};
+ghost use Rattle.llcp_conn.specs.Conn.{closes, numbers, has_room, has_waiting, due, acks, is_outside, acknowledged};
+ghost use Rattle.llcp_conn.specs.Conn.{IsOfConn, IsViewOfConn, IsSap, IsWindow};
 ghost use Rattle.llcp_conn.specs.declared.fault.ConnFault.{ConnFault};
 
 use crate::fault::{ConnFault, SharedCause, SharedRefused};
@@ -204,7 +208,8 @@ impl Conn {
     pub fn submit(&mut self, unit: &[u8]) -> Result<(), ConnFault>
         ensures ok { OnOk result (Queues self.old unit.now self.new) }
         ensures err { IfErr result (λ e.
-            ((e ≡ ConnFault.Memory) × (refusal_to_submit self.old unit.now ≡ None)) ⊎ (refusal_to_submit self.old unit.now ≡ Some e)) }
+            ((e ≡ ConnFault.Memory) × (refusal_to_submit self.old unit.now ≡ None))
+            ⊎ (refusal_to_submit self.old unit.now ≡ Some e)) }
         ensures same { OnErr result (self.new ≡ self.old) }
     {
         if let Some(cause) = self.refusal(unit.len()) {

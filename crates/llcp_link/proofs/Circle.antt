@@ -24,7 +24,8 @@ unfolding first_from
 ends_at k s f all z e = e ∙ ap (λ j. first_from j s f) z
 
 -- where memory was wanting on the way
-pub next_left : {S : Type 0} (m : Serving S) (n i s : ℕ) (f : ℕ → Option (Gave S)) (all : Option (Gave S)) (a b : S) → i < n → all ≡ first_from (n - i) s f → LeavesNext m (f s) a b → LeavesNext m all a b
+pub next_left : {S : Type 0} (m : Serving S) (n i s : ℕ) (f : ℕ → Option (Gave S)) (all : Option (Gave S)) (a b : S) → i < n → all ≡ first_from (n - i) s f → LeavesNext m (f s) a b
+    → LeavesNext m all a b
 next_left m n i s f all a b h e (inl k) = inl k
 next_left m n i s f all a b h e (inr k) = go (f s) refl k
   where

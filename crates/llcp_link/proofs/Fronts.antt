@@ -1,5 +1,6 @@
 -- The payloads of one PDU more, and of one alone.
-use Rattle.std.proofs.Common.{◌≡◌, ◌<◌, ◌≤◌, ℕ, zero, suc, ◌+◌, ◌*◌, ◌/◌, ◌%◌, Bool, true, false, List, [], ◌∷◌, ◌++◌, length, Option, Some, None, refl, sym, ap, subst, ◌∙◌, inl, inr, arith, nat_le, if◌then◌else◌, append-nil}
+use Rattle.std.proofs.Common.{◌≡◌, ◌<◌, ◌≤◌, ℕ, zero, suc, ◌+◌, ◌*◌, ◌/◌, ◌%◌, Bool, true, false, List, [], ◌∷◌, ◌++◌, length, Option, Some, None, refl, sym, ap, subst, ◌∙◌, inl, inr, arith, nat_le}
+use Rattle.std.proofs.Common.{if◌then◌else◌, append-nil}
 use Rattle.std.proofs.lemmas.List.{append_assoc}
 use Rattle.llcp_pdu.specs.declared.part.Part.{Part}
 use Rattle.llcp_pdu.specs.declared.part.Part.TheVariants.{Symm, Ui, Connect, Disc, Cc, Dm, Frmr, Snl, Info, Rr, Rnr}
@@ -116,8 +117,11 @@ module _ {S : Type 0} (m : Serving S) where
       let g : Grows (suc k) (given_parts m (suc k) l) (given_parts m (suc (suc k)) l) = given_grows l (gave m l) k all in
       let two : 2 ≤ length (given_parts m (suc k) l).parts = subst (λ x. 2 ≤ x) (sym g.few_are) h in
       let f : IsProperPrefix (payload_of (given_parts m (suc k) l).parts) (payload_of (given_parts m (suc (suc k)) l).parts) =
-      payload_more (given_parts m (suc k) l).parts (given_parts m (suc (suc k)) l).parts two g.one in
-      (inr (h, g.few_are), subst (λ x. IsProperPrefix x (given m (suc (suc k)) l)) (sym (given_is l (suc k) r)) (subst (IsProperPrefix (payload_of (given_parts m (suc k) l).parts)) (sym (given_is l (suc (suc k)) r)) f))
+      payload_more (given_parts m (suc k) l).parts (given_parts m (suc (suc k)) l).parts two g.one in (
+        inr (h, g.few_are),
+        subst (λ x. IsProperPrefix x (given m (suc (suc k)) l)) (sym (given_is l (suc k) r))
+            (subst (IsProperPrefix (payload_of (given_parts m (suc k) l).parts)) (sym (given_is l (suc (suc k)) r)) f),
+      )
 
   one_given : (l : LlcState S) (o : Option (Gave S)) → length (given_so m l o 0).parts < 2
   one_given l None = omega arith

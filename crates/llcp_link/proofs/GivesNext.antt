@@ -12,7 +12,6 @@ pub gives_owed : (c : ConnState) → c.owed ≡ true → gives_ack c ≡ record 
 gives_owed c e = ap (λ b. if b then record { conn = behind_ack c; pdu = Some (Rr c.there c.here c.vr) } else record { conn = c; pdu = None }) e
 
 module _ {S : Type 0} (m : Serving S) (l : LlcState S) (s : ℕ) where
-
   pub acknowledges_one : (c : ConnState) → conn_from s l.served ≡ Some c → c.owed ≡ true → c.there ≡ s
       → acknowledges_served l (conn_from s l.served) ≡ Some (record { llc = record l { served = with_conn (behind_ack c) l.served; last = Some s }; part = Rr c.there c.here c.vr })
   acknowledges_one c f e t =

@@ -1,5 +1,6 @@
 -- A connection at its place: found, changed and taken away there.
-use Rattle.std.proofs.Common.{◌≡◌, ℕ, suc, option_map, subst, ◌==◌, Bool, true, false, List, [], ◌∷◌, ◌++◌, length, slice_set, slice_index_or, Option, Some, None, refl, sym, ap, ◌∙◌, if◌then◌else◌, arith, remove}
+use Rattle.std.proofs.Common.{◌≡◌, ℕ, suc, option_map, subst, ◌==◌, Bool, true, false, List, [], ◌∷◌, ◌++◌, length, slice_set, slice_index_or, Option, Some, None, refl, sym, ap, ◌∙◌, if◌then◌else◌}
+use Rattle.std.proofs.Common.{arith, remove}
 use Rattle.std.proofs.Math.Seq.{set-append_seam}
 use Rattle.std.proofs.lemmas.Bool.{eq-eqb}
 use Rattle.std.proofs.lemmas.Bool.Decides.{nat_tests}

@@ -22,7 +22,8 @@ not_owing s cs place p c is e =
     let q : c ≡ p.conn = is ∙ read_at s cs place p c in
     ap owing (found_there s cs place p) ∙ ap (λ b. if b then Some p.conn else None) (ap (λ x. x.owed) (sym q) ∙ e)
 
-pub sends_there : (s : ℕ) (cs : List ConnState) (place : ℕ) (p : IsPlace s cs place) (all : AllServed cs) (c : ConnState) (most : ℕ) → c ≡ slice_index_or cs place c → may_send c ≡ true → most ≡ c.far_miu
+pub sends_there : (s : ℕ) (cs : List ConnState) (place : ℕ) (p : IsPlace s cs place) (all : AllServed cs) (c : ConnState) (most : ℕ) → c ≡ slice_index_or cs place c → may_send c ≡ true
+    → most ≡ c.far_miu
     → Sends s cs place most
 sends_there s cs place p all c most is e n =
     let q : c ≡ p.conn = is ∙ read_at s cs place p c in

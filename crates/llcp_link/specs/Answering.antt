@@ -9,7 +9,8 @@ use Rattle.llcp_link.specs.Offering.{LeavesNext}
 use Rattle.llcp_link.specs.Kept.{most_payload}
 
 -- A payload with so many PDUs: 0, and each number that isn't allowed, are as many as fit.
-pub record Gives {S : Type 0} (m : Serving S) (count : ℕ) (old : LlcState S) (bytes : List ℕ) (new : LlcState S) : Type 0 where
+pub record Gives {S : Type 0} (m : Serving S) (count : ℕ) (old : LlcState S) (bytes : List ℕ) (new : LlcState S)
+    : Type 0 where
   pub bytes_are : bytes ≡ given m count old
   pub left : new ≡ after_giving m count old
 
@@ -40,7 +41,8 @@ pub record IsStuckGiving {S : Type 0} (m : Serving S) (old new : LlcState S) : T
   pub halts : HaltsGiving m old new.service
 
 -- one step: a payload is taken, and one with so many PDUs is given
-pub record Answers {S : Type 0} (m : Serving S) (count : ℕ) (old : LlcState S) (payload reply : List ℕ) (new : LlcState S) : Type 0 where
+pub record Answers {S : Type 0} (m : Serving S) (count : ℕ) (old : LlcState S) (payload reply : List ℕ)
+    (new : LlcState S) : Type 0 where
   pub gives : Gives m count (taken_from m old payload) reply new
   pub size : length reply ≤ most_payload
 
@@ -48,5 +50,6 @@ pub record Answers {S : Type 0} (m : Serving S) (count : ℕ) (old : LlcState S)
 abbrev pub Stops : {S : Type 0} → Serving S → LlcState S → List ℕ → LlcState S → Type 0
 Stops m old payload new = IsStuck m old (brought old payload) new ⊎ IsStuckGiving m (taken_from m old payload) new
 
-pub answers_fit : {S : Type 0} (m : Serving S) (count : ℕ) (a : LlcState S) (payload reply : List ℕ) (b : LlcState S) → Answers m count a payload reply b → length reply ≤ 2178
+pub answers_fit : {S : Type 0} (m : Serving S) (count : ℕ) (a : LlcState S) (payload reply : List ℕ) (b : LlcState S)
+    → Answers m count a payload reply b → length reply ≤ 2178
 answers_fit m count a payload reply b h = h.size

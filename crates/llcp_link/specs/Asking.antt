@@ -1,5 +1,6 @@
 -- What an end asks of the other: connections and lookups, and what becomes of them (NFC Forum LLCP 1.3).
-use Rattle.std.specs.Prelude.{◌≡◌, ℕ, ◌+◌, ◌%◌, ◌==◌, Bool, true, false, List, [], ◌∷◌, ◌++◌, drop, Option, Some, None, if◌then◌else◌}
+use Rattle.std.specs.Prelude.{◌≡◌, ℕ, ◌+◌, ◌%◌, ◌==◌, Bool, true, false, List, [], ◌∷◌, ◌++◌, drop, Option, Some, None}
+use Rattle.std.specs.Prelude.{if◌then◌else◌}
 use Rattle.llcp_pdu.specs.declared.part.Part.{Part}
 use Rattle.llcp_pdu.specs.declared.part.Part.TheVariants.{Connect, Disc, Snl}
 use Rattle.llcp_pdu.specs.declared.param.Param.TheVariants.{SdReq}
@@ -10,7 +11,8 @@ use Rattle.llcp_link.specs.declared.fault.LlcFault.{LlcFault}
 use Rattle.llcp_link.specs.declared.fault.LlcFault.TheVariants.{Busy}
 use Rattle.llcp_link.specs.declared.standing.Standing.{Standing}
 use Rattle.llcp_link.specs.declared.standing.Standing.TheVariants as stands
-use Rattle.llcp_link.specs.State.{Queued, OwnIs, Asking, Open, Refused, Leaving, Closed, OwnState, Lookup, LlcState, own_from, with_own}
+use Rattle.llcp_link.specs.State.{Queued, OwnIs, Asking, Open, Refused, Leaving, Closed, OwnState, Lookup, LlcState}
+use Rattle.llcp_link.specs.State.{own_from, with_own}
 use Rattle.llcp_link.specs.Own.{on_own}
 use Rattle.llcp_link.specs.Names.{own_params}
 

@@ -1,5 +1,6 @@
 -- Binding a name to a SAP, under which other ends reach this end's service (NFC Forum LLCP 1.3).
-use Rattle.std.specs.Prelude.{◌≡◌, ℕ, nat_eq, nat_lt, ◌||◌, Bool, List, [], ◌∷◌, ◌++◌, is_some, Option, Some, None, if◌then◌else◌}
+use Rattle.std.specs.Prelude.{◌≡◌, ℕ, nat_eq, nat_lt, ◌||◌, Bool, List, [], ◌∷◌, ◌++◌, is_some, Option, Some, None}
+use Rattle.std.specs.Prelude.{if◌then◌else◌}
 use Rattle.std.specs.Cmp.Lexicographic.{pointwise}
 use Rattle.llcp_link.specs.declared.fault.LlcFault.{LlcFault}
 use Rattle.llcp_link.specs.declared.fault.LlcFault.TheVariants.{NameTaken, SapTaken}

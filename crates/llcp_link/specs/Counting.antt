@@ -11,7 +11,8 @@ abbrev pub RestartsCounted : {S : Type 0} → Serving S → Choosing (LlcState S
 RestartsCounted m old general new = new ≡ record { end = restarted m old.end general; numbers = old.numbers }
 
 -- One step: a payload is taken, and one is given that has as many PDUs as the next number says.
-pub record AnswersCounted {S : Type 0} (m : Serving S) (old : Choosing (LlcState S)) (payload reply : List ℕ) (new : Choosing (LlcState S)) : Type 0 where
+pub record AnswersCounted {S : Type 0} (m : Serving S) (old : Choosing (LlcState S)) (payload reply : List ℕ)
+    (new : Choosing (LlcState S)) : Type 0 where
   pub answers : Answers m (first_number old.numbers) old.end payload reply new.end
   pub numbers : new.numbers ≡ later_numbers old.numbers
 
@@ -19,5 +20,6 @@ pub record AnswersCounted {S : Type 0} (m : Serving S) (old : Choosing (LlcState
 abbrev pub StopsCounted : {S : Type 0} → Serving S → Choosing (LlcState S) → List ℕ → Choosing (LlcState S) → Type 0
 StopsCounted m old payload new = Stops m old.end payload new.end
 
-pub counted_fit : {S : Type 0} (m : Serving S) (a : Choosing (LlcState S)) (payload reply : List ℕ) (b : Choosing (LlcState S)) → AnswersCounted m a payload reply b → length reply ≤ 2178
+pub counted_fit : {S : Type 0} (m : Serving S) (a : Choosing (LlcState S)) (payload reply : List ℕ)
+    (b : Choosing (LlcState S)) → AnswersCounted m a payload reply b → length reply ≤ 2178
 counted_fit m a payload reply b h = h.answers.size

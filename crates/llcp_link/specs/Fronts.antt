@@ -19,4 +19,5 @@ FrontLaw {S} m =
 -- The payload of one PDU begins none of several.
 abbrev pub AloneLaw : {S : Type 0} → Serving S → Type 0
 AloneLaw {S} m =
-    (l : LlcState S) (n : ℕ) → l.readable ≡ true → 2 ≤ n → IsAllowed m l n → IsProperPrefix (given m 1 l) (given m n l) → ⊥
+    (l : LlcState S) (n : ℕ) → l.readable ≡ true → 2 ≤ n → IsAllowed m l n → IsProperPrefix (given m 1 l) (given m n l)
+    → ⊥

@@ -1,5 +1,6 @@
 -- What an end gives next (NFC Forum LLCP 1.3; the order is this project's own).
-use Rattle.std.specs.Prelude.{◌≡◌, ◌≤◌, ◌⊎◌, ℕ, zero, suc, ◌+◌, ◌%◌, ◌&&◌, nat_le, not, Bool, List, [], ◌∷◌, length, Option, Some, None, if◌then◌else◌}
+use Rattle.std.specs.Prelude.{◌≡◌, ◌≤◌, ◌⊎◌, ℕ, zero, suc, ◌+◌, ◌%◌, ◌&&◌, nat_le, not, Bool, List, [], ◌∷◌, length}
+use Rattle.std.specs.Prelude.{Option, Some, None, if◌then◌else◌}
 use Rattle.llcp_pdu.specs.declared.part.Part.{Part}
 use Rattle.llcp_pdu.specs.declared.part.Part.TheVariants.{Symm}
 use Rattle.llcp_pdu.specs.declared.pdu.Pdu.TheVariants.{Agf, One}
@@ -43,7 +44,8 @@ module _ {S : Type 0} where
   -- a connection gave a PDU, and its client's SAP is marked
   abbrev pub gave_conn : LlcState S → ConnState → Option Part → Option (Gave S)
   gave_conn l c None = None
-  gave_conn l c (Some p) = Some (record { llc = record l { served = with_conn c l.served; last = Some c.there }; part = p })
+  gave_conn l c (Some p) =
+      Some (record { llc = record l { served = with_conn c l.served; last = Some c.there }; part = p })
 
   -- one that this end asked for gave a PDU, and its SAP is marked
   abbrev pub gave_own : LlcState S → Option OwnGave → Option (Gave S)
@@ -73,7 +75,8 @@ module _ {S : Type 0} (m : Serving S) where
   abbrev pub sends : LlcState S → ConnState → Option (List ℕ) → Option (Gave S)
   sends l c None = None
   sends l c (Some u) =
-      gave_conn (record l { service = m.sent l.service c.there c.far_miu }) (gives (queued c u)).conn (gives (queued c u)).pdu
+      gave_conn (record l { service = m.sent l.service c.there c.far_miu }) (gives (queued c u)).conn
+      (gives (queued c u)).pdu
 
   abbrev pub informs_served : LlcState S → Option ConnState → Option (Gave S)
   informs_served l None = None
@@ -106,11 +109,13 @@ module _ {S : Type 0} (m : Serving S) where
   abbrev pub gave_first : Part → GaveAll → GaveAll
   gave_first p g = record { llc = g.llc; parts = p ∷ g.parts }
 
-  -- The information of the AGF has so many bytes: one PDU more is joined where it is due and within the other end's MIU.
+  -- The information of the AGF has so many bytes: one PDU more is joined where it is due and within the other end's
+  -- MIU.
   abbrev pub joined_so : LlcState S → ℕ → Option (Gave S) → (ℕ → LlcState S → GaveAll) → GaveAll
   joined_so l used None more = gave_none l
   joined_so l used (Some g) more =
-      if nat_le (used + length (inner_bytes g.part)) l.far_miu then gave_first g.part (more (used + length (inner_bytes g.part)) g.llc)
+      if nat_le (used + length (inner_bytes g.part)) l.far_miu
+      then gave_first g.part (more (used + length (inner_bytes g.part)) g.llc)
       else gave_none l
 
   abbrev pub joined : ℕ → ℕ → LlcState S → GaveAll
@@ -130,7 +135,8 @@ module _ {S : Type 0} (m : Serving S) where
   abbrev pub given_parts : ℕ → LlcState S → GaveAll
   given_parts n l = given_so l (gave l) (others l n)
 
-  -- A payload may have so many PDUs: one, which is a SYMM where none is due, or several that are due and fit in one AGF.
+  -- A payload may have so many PDUs: one, which is a SYMM where none is due, or several that are due and fit in one
+  -- AGF.
   abbrev pub IsAllowed : LlcState S → ℕ → Type 0
   IsAllowed l n = (n ≡ 1) ⊎ ((2 ≤ n) × (length (given_parts n l).parts ≡ n))
 
@@ -141,7 +147,8 @@ payload_of (p ∷ []) = pdu_bytes (One p)
 payload_of (p ∷ q ∷ ps) = pdu_bytes (Agf (p ∷ q ∷ ps))
 
 module _ {S : Type 0} (m : Serving S) where
-  -- what an end gives, so many PDUs in one payload, and the end behind it; one that couldn't read general bytes gives nothing
+  -- what an end gives, so many PDUs in one payload, and the end behind it; one that couldn't read general bytes gives
+  -- nothing
   abbrev pub given : ℕ → LlcState S → List ℕ
   given n l = if l.readable then payload_of (given_parts m n l).parts else []
 

@@ -65,8 +65,10 @@ abbrev pub AllBound : List Bound → Type 0
 AllBound [] = Unit {0}
 AllBound (b ∷ bs) = IsSap b.sap × AllBound bs
 
--- an end by its MIU and window, the other end's MIU, the names that are bound, the PDUs that wait, the connections and the mark
-pub record IsEnd (near rw far : ℕ) (names : List Bound) (waiting : List Queued) (conns : List ConnState) (mark : Option ℕ) : Type 0 where
+-- an end by its MIU and window, the other end's MIU, the names that are bound, the PDUs that wait, the connections and
+-- the mark
+pub record IsEnd (near rw far : ℕ) (names : List Bound) (waiting : List Queued) (conns : List ConnState)
+    (mark : Option ℕ) : Type 0 where
   pub miu : IsMiu near
   pub window : IsWindow rw
   pub far_miu : IsMiu far

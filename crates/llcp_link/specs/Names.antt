@@ -1,5 +1,6 @@
 -- Names of services, and the parameters of CONNECT, CC and SNL (NFC Forum LLCP 1.3).
-use Rattle.std.specs.Prelude.{ℕ, ◌==◌, nat_eq, Bool, List, [], ◌∷◌, ◌++◌, take, filter_map, Option, Some, None, unwrap_or, if◌then◌else◌, codes}
+use Rattle.std.specs.Prelude.{ℕ, ◌==◌, nat_eq, Bool, List, [], ◌∷◌, ◌++◌, take, filter_map, Option, Some, None}
+use Rattle.std.specs.Prelude.{unwrap_or, if◌then◌else◌, codes}
 use Rattle.std.specs.Cmp.Lexicographic.{pointwise}
 use Rattle.llcp_pdu.specs.declared.param.Param.{Param}
 use Rattle.llcp_pdu.specs.declared.param.Param.TheVariants.{Rw, SdReq, SdRes}

@@ -1,5 +1,6 @@
 -- What is given of an end, where its length is within what is left.
-use Rattle.std.specs.Prelude.{◌≡◌, ◌<◌, ◌≤◌, ◌⊎◌, ℕ, ◌+◌, List, [], ◌∷◌, ◌++◌, length, true, false, Option, Some, None, option_map, if◌then◌else◌}
+use Rattle.std.specs.Prelude.{◌≡◌, ◌<◌, ◌≤◌, ◌⊎◌, ℕ, ◌+◌, List, [], ◌∷◌, ◌++◌, length, true, false, Option, Some, None}
+use Rattle.std.specs.Prelude.{option_map, if◌then◌else◌}
 use Rattle.llcp_pdu.specs.declared.part.Part.{Part}
 use Rattle.llcp_pdu.specs.declared.part.Part.TheVariants.{Info, Rr}
 use Rattle.llcp_pdu.specs.Writing.{inner_bytes}
@@ -26,8 +27,8 @@ IsLonger room (Some p) = (room < length (inner_bytes p)) × (length (inner_bytes
 abbrev pub part_of : {S : Type 0} → Option (Gave S) → Option Part
 part_of due = option_map (λ g. g.part) due
 
--- This PDU is due, or none, and so it was given; or it is longer than what is left, and nothing was done. It is told with what is left
--- behind it: of an end, or of one connection.
+-- This PDU is due, or none, and so it was given; or it is longer than what is left, and nothing was done. It is told
+-- with what is left behind it: of an end, or of one connection.
 abbrev pub TriedBy : {A : Type 0} → {G : Type 0} → (A → Part → G) → (G → Part) → ℕ → Option G → A → A → Next → Type 0
 TriedBy gave part room due old new Nothing = (due ≡ None) × (new ≡ old)
 TriedBy gave part room due old new (Given p) = (due ≡ Some (gave new p)) × IsSent p × (length (inner_bytes p) ≤ room)
@@ -111,8 +112,8 @@ pub record AckedBy (s : ℕ) (old : List ConnState) (p : Part) (new : List ConnS
   pub sent : IsSent p
   pub size : length (inner_bytes p) ≡ 5
 
--- Where memory was wanting as a PDU was due, the service is as it was, as a call of it leaves it that memory ended, or as it
--- is once the PDU was given.
+-- Where memory was wanting as a PDU was due, the service is as it was, as a call of it leaves it that memory ended, or
+-- as it is once the PDU was given.
 abbrev pub LeftBy : {S : Type 0} → Option (Gave S) → S → Type 0
 LeftBy None s = ⊥
 LeftBy (Some g) s = s ≡ g.llc.service

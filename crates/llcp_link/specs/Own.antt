@@ -1,4 +1,5 @@
--- What PDUs do to a connection that an end asked for, and what it gives (NFC Forum LLCP 1.3). What calls do to it is in Asking.antt.
+-- What PDUs do to a connection that an end asked for, and what it gives (NFC Forum LLCP 1.3). What calls do to it is in
+-- Asking.antt.
 use Rattle.std.specs.Prelude.{ℕ, ◌==◌, List, [], ◌∷◌, ◌++◌, is_some, Option, Some, None, if◌then◌else◌}
 use Rattle.llcp_pdu.specs.declared.part.Part.{Part}
 use Rattle.llcp_conn.specs.declared.conn.Taken.{Taken}

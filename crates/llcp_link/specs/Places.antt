@@ -1,5 +1,6 @@
 -- Where a connection stands among those of an end, for private calls.
-use Rattle.std.specs.Prelude.{◌≡◌, ◌<◌, ◌==◌, ℕ, suc, List, [], ◌∷◌, ◌++◌, length, remove, slice_index_or, slice_set, Option, Some, None, option_map, if◌then◌else◌}
+use Rattle.std.specs.Prelude.{◌≡◌, ◌<◌, ◌==◌, ℕ, suc, List, [], ◌∷◌, ◌++◌, length, remove, slice_index_or, slice_set}
+use Rattle.std.specs.Prelude.{Option, Some, None, option_map, if◌then◌else◌}
 use Rattle.llcp_pdu.specs.declared.pdu_view.PduView.{PduView}
 use Rattle.llcp_pdu.specs.declared.pdu_view.PduView.TheVariants as view
 use Rattle.llcp_pdu.specs.Spelling.{IsReport}
@@ -7,7 +8,8 @@ use Rattle.llcp_conn.specs.declared.conn.ConnNumbers.{ConnNumbers}
 use Rattle.llcp_conn.specs.declared.conn.Taken.{Taken}
 use Rattle.llcp_conn.specs.declared.conn.Taken.TheVariants as taking
 use Rattle.llcp_conn.specs.Conn.{ConnState, modulus, numbers, takes_view}
-use Rattle.llcp_link.specs.State.{conn_from, with_conn, without_conn, Nobody, OwnState, own_from, served_holder, with_own}
+use Rattle.llcp_link.specs.State.{conn_from, with_conn, without_conn, Nobody, OwnState, own_from, served_holder}
+use Rattle.llcp_link.specs.State.{with_own}
 use Rattle.llcp_link.specs.Asking.{put_own, without_own}
 use Rattle.llcp_link.specs.Kept.{IsServed}
 
@@ -46,7 +48,8 @@ IsBetweenOf d s cs (Some place) = (p : IsPlace s cs place) × (p.conn.here ≡ d
 -- the connections once one gave it up, whose numbers it had
 abbrev pub ClosedBy : ℕ → ℕ → List ConnState → Option ConnNumbers → List ConnState → Type 0
 ClosedBy d s old None new = IsNobodys d s old × (new ≡ old)
-ClosedBy d s old (Some n) new = (c : ConnState) × IsHeld d s old c × IsServed c × (n ≡ numbers c) × (new ≡ without_conn s old)
+ClosedBy d s old (Some n) new = (c : ConnState) × IsHeld d s old c × IsServed c × (n ≡ numbers c)
+    × (new ≡ without_conn s old)
 
 -- what a PDU leaves of the connections: one that it closes is gone
 abbrev pub left_so : List ConnState → ConnState → Taken → List ConnState

@@ -7,8 +7,8 @@ use Rattle.llcp_link.specs.Taking.{brought, taken_from}
 use Rattle.llcp_link.specs.Giving.{after_giving}
 use Rattle.llcp_link.specs.Units.{Mark, marks, units}
 
--- A payload came; a payload with so many PDUs was given, or with as many as can be joined; or it did something else: it asked for
--- a connection of its own, looked a name up, bound one, or its service was changed.
+-- A payload came; a payload with so many PDUs was given, or with as many as can be joined; or it did something else: it
+-- asked for a connection of its own, looked a name up, bound one, or its service was changed.
 pub data Act : Type 0 where
   Takes : List ℕ → Act
   Gives : ℕ → Act
@@ -22,7 +22,8 @@ pub record Acted (S : Type 0) : Type 0 where
 abbrev pub AreBytes : List ℕ → Type 0
 AreBytes bytes = (i : ℕ) → slice_index bytes i < 256
 
--- Whatever else it is that an end does: its MIU and the connections that were asked of it stay, and its service changes so.
+-- Whatever else it is that an end does: its MIU and the connections that were asked of it stay, and its service changes
+-- so.
 pub record DoesElse {S : Type 0} (changes : S → S → Type 0) (old new : LlcState S) : Type 0 where
   pub miu : new.miu ≡ old.miu
   pub served : new.served ≡ old.served
@@ -59,7 +60,8 @@ with_unit u [] = []
 with_unit u (us ∷ []) = (us ++ u ∷ []) ∷ []
 with_unit u (us ∷ vs ∷ more) = us ∷ with_unit u (vs ∷ more)
 
--- The state of such a service tells of each client's SAP the units that were brought on each of its connections, the last one last.
+-- The state of such a service tells of each client's SAP the units that were brought on each of its connections, the
+-- last one last.
 pub record Tells {S : Type 0} (m : Serving S) (told : ℕ → S → List (List (List ℕ))) : Type 0 where
   pub begun : (s : S) (c : ℕ) → IsSap c → told c (m.begun s c) ≡ told c s ++ [] ∷ []
   pub begun_else : (s : S) (c d : ℕ) → IsSap c → d ≢ c → told c (m.begun s d) ≡ told c s
@@ -70,8 +72,8 @@ pub record Tells {S : Type 0} (m : Serving S) (told : ℕ → S → List (List (
 abbrev pub TellsSame : {S : Type 0} → (ℕ → S → List (List (List ℕ))) → S → S → Type 0
 TellsSame told s t = (c : ℕ) → IsSap c → told c t ≡ told c s
 
--- Whatever payloads come after a restart, and whatever the end does between them: the units that are brought to its service for
--- each client's SAP are those of the connections of this SAP, in order.
+-- Whatever payloads come after a restart, and whatever the end does between them: the units that are brought to its
+-- service for each client's SAP are those of the connections of this SAP, in order.
 abbrev pub UnitsLaw : {S : Type 0} → Serving S → Type 0
 UnitsLaw {S} m =
     (told : ℕ → S → List (List (List ℕ))) → Tells m told → (old : LlcState S) (general : List ℕ) (run : List (Acted S))

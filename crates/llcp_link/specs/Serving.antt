@@ -1,9 +1,9 @@
 -- What an end's service does with the connections to it, each named by its client's SAP.
 use Rattle.std.specs.Prelude.{ℕ, List, Option, Some, None}
 
--- What services of one type do, as functions of their state: a connection of a client's SAP begins; a unit is brought on it; the unit
--- that it sends next, of at most so many bytes; the service once it is sent; what is left of it when a new link begins. And what
--- a call that want of memory ended leaves.
+-- What services of one type do, as functions of their state: a connection of a client's SAP begins; a unit is brought
+-- on it; the unit that it sends next, of at most so many bytes; the service once it is sent; what is left of it when a
+-- new link begins. And what a call that want of memory ended leaves.
 pub record Serving (S : Type 0) : Type 1 where
   pub begun : S → ℕ → S
   pub brought : S → ℕ → List ℕ → S

@@ -1,5 +1,6 @@
 -- What contracts see of an end of a link (NFC Forum LLCP 1.3).
-use Rattle.std.specs.Prelude.{◌≡◌, ℕ, ◌==◌, Bool, true, false, List, [], ◌∷◌, Option, Some, None, if◌then◌else◌, Result, Ok, Err}
+use Rattle.std.specs.Prelude.{◌≡◌, ℕ, ◌==◌, Bool, true, false, List, [], ◌∷◌, Option, Some, None, if◌then◌else◌, Result}
+use Rattle.std.specs.Prelude.{Ok, Err}
 use Rattle.llcp_pdu.specs.declared.part.Part.{Part}
 use Rattle.llcp_pdu.specs.declared.general.GeneralFault.{GeneralFault}
 use Rattle.llcp_pdu.specs.declared.general.LinkParams.{LinkParams}
@@ -31,8 +32,8 @@ pub record Queued : Type 0 where
 abbrev pub answer : Part → Queued
 answer p = record { own = false; part = p }
 
--- A connection that this end asked for from one SAP to another: a CC is awaited; it is open; it was refused; it was given up, and a
--- DM is awaited; or it is closed. And the units that were handed up on it and not yet taken away.
+-- A connection that this end asked for from one SAP to another: a CC is awaited; it is open; it was refused; it was
+-- given up, and a DM is awaited; or it is closed. And the units that were handed up on it and not yet taken away.
 pub record OwnState : Type 0 where
   pub here : ℕ
   pub there : ℕ
@@ -44,10 +45,10 @@ pub record Lookup : Type 0 where
   pub tid : ℕ
   pub told : Option ℕ
 
--- An end: its MIU and receive window, and the names that are bound; whether the other end's general bytes could be read, and the
--- MIU that they say; the PDUs that wait; the connections that the other end asked for, each named by its client's SAP, and those
--- that this end asked for, each by its own; its lookups, and how many there were, modulo 256; the client's SAP that last gave an I or RR;
--- whether want of memory ended a call on this link; and its service.
+-- An end: its MIU and receive window, and the names that are bound; whether the other end's general bytes could be
+-- read, and the MIU that they say; the PDUs that wait; the connections that the other end asked for, each named by its
+-- client's SAP, and those that this end asked for, each by its own; its lookups, and how many there were, modulo 256;
+-- the client's SAP that last gave an I or RR; whether want of memory ended a call on this link; and its service.
 pub record LlcState (S : Type 0) : Type 0 where
   pub miu : ℕ
   pub window : ℕ
@@ -135,8 +136,8 @@ abbrev pub with_own : OwnState → List OwnState → List OwnState
 with_own o [] = []
 with_own o (p ∷ ps) = if p.here == o.here then o ∷ ps else p ∷ with_own o ps
 
--- Who has the connection between a SAP of this end and one of the other: nobody; one that was asked of this end; an open one that
--- this end asked for.
+-- Who has the connection between a SAP of this end and one of the other: nobody; one that was asked of this end; an
+-- open one that this end asked for.
 pub data Holder : Type 0 where
   Nobody : Holder
   Served : ConnState → Holder

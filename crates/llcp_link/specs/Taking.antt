@@ -1,5 +1,6 @@
 -- What an end does with a payload that it takes (NFC Forum LLCP 1.3; the limits of its queue are this project's own).
-use Rattle.std.specs.Prelude.{ℕ, ◌+◌, ◌/◌, ◌==◌, ◌&&◌, ◌||◌, nat_lt, nat_le, Bool, List, [], ◌∷◌, ◌++◌, length, map, Option, Some, None, is_none, if◌then◌else◌, Result, Ok, Err}
+use Rattle.std.specs.Prelude.{ℕ, ◌+◌, ◌/◌, ◌==◌, ◌&&◌, ◌||◌, nat_lt, nat_le, Bool, List, [], ◌∷◌, ◌++◌, length, map}
+use Rattle.std.specs.Prelude.{Option, Some, None, is_none, if◌then◌else◌, Result, Ok, Err}
 use Rattle.llcp_pdu.specs.declared.fault.PduRefusal.{PduRefusal}
 use Rattle.llcp_pdu.specs.Views.{refusal_told}
 use Rattle.llcp_pdu.specs.declared.param.Param.{Param}
@@ -15,7 +16,8 @@ use Rattle.llcp_conn.specs.declared.conn.Taken.{Taken}
 use Rattle.llcp_conn.specs.declared.conn.Taken.TheVariants as taking
 use Rattle.llcp_conn.specs.Conn.{ConnState, fresh, takes, Took, report}
 use Rattle.llcp_link.specs.Serving.{Serving}
-use Rattle.llcp_link.specs.State.{Queued, answer, OwnState, LlcState, most_answers, most_connections, conn_from, with_conn, without_conn, own_from, with_own, Holder, Nobody, Served, Asked, holder}
+use Rattle.llcp_link.specs.State.{Queued, answer, OwnState, LlcState, most_answers, most_connections, conn_from}
+use Rattle.llcp_link.specs.State.{with_conn, without_conn, own_from, with_own, Holder, Nobody, Served, Asked, holder}
 use Rattle.llcp_link.specs.Own.{cc_on, closed_on, dm_on, if_there, on_own, took_on}
 use Rattle.llcp_link.specs.Names.{reached, name_of, miu_of, rw_of, own_params, answers_to, lookups_told}
 
@@ -53,7 +55,8 @@ sequence_of (Some x) = x
 abbrev pub minded : RawHeader → List Item
 minded h =
     if h.ptype == disc_type then Broken h.ptype h.dsap h.ssap 0 ∷ []
-    else (if (h.ptype == info_type) || ((h.ptype == rr_type) || (h.ptype == rnr_type)) then Broken h.ptype h.dsap h.ssap (sequence_of h.third) ∷ []
+    else (if (h.ptype == info_type) || ((h.ptype == rr_type) || (h.ptype == rnr_type))
+    then Broken h.ptype h.dsap h.ssap (sequence_of h.third) ∷ []
     else [])
 
 abbrev pub broken : Option RawHeader → List Item
@@ -100,7 +103,8 @@ module _ {S : Type 0} where
   refused_at l d s (Some sap) = answered l (Dm s sap busy)
 
   abbrev pub refuses : LlcState S → ℕ → ℕ → List Param → LlcState S
-  refuses l d s ps = if rw_of ps == 0 then answered l (Dm s d not_taken) else refused_at l d s (reached l.bound d (name_of ps))
+  refuses l d s ps = if rw_of ps == 0 then answered l (Dm s d not_taken)
+      else refused_at l d s (reached l.bound d (name_of ps))
 
   -- a connection ends
   abbrev pub ends : LlcState S → Holder → LlcState S

@@ -1,13 +1,15 @@
--- The units that payloads bring to the connections of one client's SAP, by the payloads and by what the end's state tells of them.
-use Rattle.std.specs.Prelude.{ℕ, ◌+◌, ◌-◌, ◌%◌, ◌==◌, nat_lt, Bool, ◌&&◌, not, List, [], ◌∷◌, ◌++◌, length, Option, Some, None, if◌then◌else◌}
+-- The units that payloads bring to the connections of one client's SAP, by the payloads and by what the end's state
+-- tells of them.
+use Rattle.std.specs.Prelude.{ℕ, ◌+◌, ◌-◌, ◌%◌, ◌==◌, nat_lt, Bool, ◌&&◌, not, List, [], ◌∷◌, ◌++◌, length, Option}
+use Rattle.std.specs.Prelude.{Some, None, if◌then◌else◌}
 use Rattle.llcp_pdu.specs.declared.part.Part.TheVariants.{Connect, Disc, Frmr, Info, Rr, Rnr}
 use Rattle.llcp_conn.specs.Conn.{ConnState, vs}
 use Rattle.llcp_link.specs.Serving.{Serving}
 use Rattle.llcp_link.specs.State.{LlcState, conn_from}
 use Rattle.llcp_link.specs.Taking.{Item, Good, Broken, accepted, step}
 
--- a PDU that came, with what the end's state tells: the SAP that answers it with CC, where one does; and V(S) and V(SA) of the
--- connection of the client's SAP
+-- a PDU that came, with what the end's state tells: the SAP that answers it with CC, where one does; and V(S) and V(SA)
+-- of the connection of the client's SAP
 pub record Mark : Type 0 where
   pub item : Item
   pub accepted : Option ℕ
@@ -28,7 +30,12 @@ module _ {S : Type 0} (m : Serving S) where
   accepted_item l _ = None
 
   abbrev pub mark : ℕ → LlcState S → Item → Mark
-  mark c l i = record { item = i; accepted = accepted_item l i; vs = vs_of (conn_from c l.served); vsa = vsa_of (conn_from c l.served) }
+  mark c l i = record {
+    item = i;
+    accepted = accepted_item l i;
+    vs = vs_of (conn_from c l.served);
+    vsa = vsa_of (conn_from c l.served);
+  }
 
   abbrev pub marks : ℕ → LlcState S → List Item → List Mark
   marks c l [] = []
@@ -51,7 +58,8 @@ pub data Does : Type 0 where
 
 -- A PDU between its SAPs. The next I PDU has a right size, N(S) and N(R); a right RR and RNR a right N(R).
 abbrev pub informs : ℕ → UnitsSoFar → Mark → ℕ → ℕ → List ℕ → Does
-informs miu o m ns nr info = if not (nat_lt miu (length info)) && (is_within m.vsa m.vs nr && (ns == length o.units % 16)) then Brings info else Ends
+informs miu o m ns nr info = if not (nat_lt miu (length info))
+    && (is_within m.vsa m.vs nr && (ns == length o.units % 16)) then Brings info else Ends
 
 abbrev pub acknowledges : Mark → ℕ → Does
 acknowledges m nr = if is_within m.vsa m.vs nr then Stays else Ends

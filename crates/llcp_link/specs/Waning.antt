@@ -1,5 +1,5 @@
--- What is still to come on a connection that an end asked for, whatever the other end sends: an answer that is awaited, and the
--- acknowledgements of units.
+-- What is still to come on a connection that an end asked for, whatever the other end sends: an answer that is awaited,
+-- and the acknowledgements of units.
 use Rattle.std.specs.Prelude.{ℕ, ◌+◌, length, Option, Some, None}
 use Rattle.llcp_link.specs.State.{OwnIs, Asking, Open, Refused, Leaving, Closed, OwnState}
 

@@ -3,7 +3,9 @@
 ghost use Rattle.std.specs.Prelude.{◌≡◌, ◌≤◌, ◌⊎◌, None, Some, true, length, IfErr, IfOk, OnOk, OnErr};
 ghost use Rattle.llcp_conn.specs.Conn.{IsSap};
 ghost use Rattle.llcp_conn.specs.declared.fault.ConnFault.{ConnFault};
-ghost use Rattle.llcp_link.specs.Asking.{Connects, Submits, acked_of, connecting_refusal, disconnected_by, first_sap, forgotten, found_in, has_waiting_of, is_open_by, looked_up, refusal_of, standing_of, unit_of, unit_taken_by};
+ghost use Rattle.llcp_link.specs.Asking.{Connects, Submits, acked_of, connecting_refusal, disconnected_by, first_sap};
+ghost use Rattle.llcp_link.specs.Asking.{forgotten, found_in, has_waiting_of, is_open_by, looked_up, refusal_of};
+ghost use Rattle.llcp_link.specs.Asking.{standing_of, unit_of, unit_taken_by};
 ghost use Rattle.llcp_link.specs.State.{own_from};
 ghost use Rattle.llcp_link.specs.declared.fault.LlcFault.{LlcFault};
 

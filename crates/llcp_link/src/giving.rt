@@ -2,7 +2,8 @@
 
 ghost use Rattle.std.specs.Prelude.{◌≡◌, ◌≤◌, IfOk, OnErr};
 ghost use Rattle.llcp_conn.specs.Conn.{IsSap};
-ghost use Rattle.llcp_link.specs.Giving.{acknowledges, acknowledges_own, acknowledges_served, circle_start as start_of, first_of_all, gave, informs, informs_own, informs_served, sap_after as after};
+ghost use Rattle.llcp_link.specs.Giving.{acknowledges, acknowledges_own, acknowledges_served, circle_start as start_of};
+ghost use Rattle.llcp_link.specs.Giving.{first_of_all, gave, informs, informs_own, informs_served, sap_after as after};
 ghost use Rattle.llcp_link.specs.Halting.{IsSame};
 ghost use Rattle.llcp_link.specs.Offering.{LeavesNext, Tried, queued_first};
 ghost use Rattle.llcp_link.specs.State.{conn_from, own_from};

@@ -3,7 +3,8 @@
 ghost use Rattle.std.specs.Prelude.{◌≡◌, [], ◌∷◌, ◌++◌, true, option_map, IfSome, OnOk, OnErr};
 ghost use Rattle.llcp_conn.specs.Conn.{IsSap};
 ghost use Rattle.llcp_link.specs.Kept.{AllBound};
-ghost use Rattle.llcp_link.specs.Names.{bound_to, found as found_of, is_bound as has_bound, discovery_name, reached as reached_by};
+ghost use Rattle.llcp_link.specs.Names.{bound_to, found as found_of, is_bound as has_bound, discovery_name};
+ghost use Rattle.llcp_link.specs.Names.{reached as reached_by};
 
 use nfc_base::Items;
 use std::alloc::AllocError;

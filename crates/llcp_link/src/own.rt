@@ -5,7 +5,8 @@ ghost use Rattle.llcp_pdu.specs.General.{IsMiu};
 ghost use Rattle.llcp_pdu.specs.Wire.{rw_end};
 ghost use Rattle.llcp_conn.specs.Conn.{IsSap, IsWindow, first};
 ghost use Rattle.llcp_conn.specs.declared.fault.ConnFault.{ConnFault};
-ghost use Rattle.llcp_link.specs.Asking.{asked_from, is_there, is_open, acked_on as acked_of, has_waiting_on, refusal_on, standing_on, unit_taken_on, SubmitsOn};
+ghost use Rattle.llcp_link.specs.Asking.{asked_from, is_there, is_open, acked_on as acked_of, has_waiting_on};
+ghost use Rattle.llcp_link.specs.Asking.{refusal_on, standing_on, unit_taken_on, SubmitsOn};
 ghost use Rattle.llcp_link.specs.private.Closing.{ClosesOwn, TakesOwn};
 ghost use Rattle.llcp_link.specs.Own.{cc_on, dm_on, if_there};
 ghost use Rattle.llcp_link.specs.Places.{IsNumbered};
@@ -199,7 +200,8 @@ impl Own {
     pub(crate) fn submit(&mut self, unit: &[u8]) -> Result<(), ConnFault>
         ensures ok { OnOk result (SubmitsOn self.old unit.now self.new) }
         ensures err { IfErr result (λ e.
-            ((e ≡ ConnFault.Memory) × (refusal_on self.old.is unit.now ≡ None)) ⊎ (refusal_on self.old.is unit.now ≡ Some e)) }
+            ((e ≡ ConnFault.Memory) × (refusal_on self.old.is unit.now ≡ None))
+            ⊎ (refusal_on self.old.is unit.now ≡ Some e)) }
         ensures same { OnErr result (self.new ≡ self.old) }
     {
         let OwnIs::Open(conn) = &mut self.is else {

@@ -2,7 +2,8 @@
 
 ghost use Rattle.std.specs.Prelude.{◌≡◌, ◌⊎◌, IfErr, OnOk, OnErr};
 ghost use Rattle.llcp_conn.specs.declared.fault.ConnFault.{ConnFault};
-ghost use Rattle.llcp_link.specs.Asking.{acked_of, has_waiting_of, is_busy_by, put_own, queued_on, refusal_of, standing_of, unit_of, unit_taken_on, without_own};
+ghost use Rattle.llcp_link.specs.Asking.{acked_of, has_waiting_of, is_busy_by, put_own, queued_on, refusal_of};
+ghost use Rattle.llcp_link.specs.Asking.{standing_of, unit_of, unit_taken_on, without_own};
 ghost use Rattle.llcp_link.specs.Own.{on_own};
 ghost use Rattle.llcp_link.specs.Places.{PlaceOf};
 ghost use Rattle.llcp_link.specs.State.{own_from};

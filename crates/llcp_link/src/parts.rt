@@ -11,8 +11,8 @@ use llcp_pdu::{FrmrReport, Param, Part};
 use nfc_base::Items;
 use std::alloc::{AllocError, Global};
 
-/// The reasons of a DM: a connection was given up, there is none, nothing is bound there, a CONNECT that is never taken,
-/// and connections enough.
+/// The reasons of a DM: a connection was given up, there is none, nothing is bound there, a CONNECT that is never
+/// taken, and connections enough.
 pub(crate) const DISCONNECTED: u8 = 0x00;
 
 pub(crate) const NOT_CONNECTED: u8 = 0x01;

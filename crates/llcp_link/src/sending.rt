@@ -4,7 +4,8 @@ ghost use Rattle.std.specs.Prelude.{◌≡◌, ◌≤◌, length, true, IfOk, On
 ghost use Rattle.llcp_pdu.specs.declared.part.Part.{Part};
 ghost use Rattle.llcp_link.specs.Giving.{may_send as is_open_to};
 ghost use Rattle.llcp_link.specs.Kept.{AllServed, IsServed};
-ghost use Rattle.llcp_link.specs.Offering.{AckedBy, IsOwer, IsSender, Owes, Sends, SentBy, behind_ack, info_of, sent_on};
+ghost use Rattle.llcp_link.specs.Offering.{AckedBy, IsOwer, IsSender, Owes, Sends, SentBy, behind_ack, info_of};
+ghost use Rattle.llcp_link.specs.Offering.{sent_on};
 
 use crate::served::place_of;
 use llcp_conn::Conn;

@@ -8,7 +8,8 @@ ghost use Rattle.llcp_link.specs.Places.{IsNumbered};
 ghost use Rattle.llcp_link.specs.private.Closing.{ClosesHeld};
 ghost use Rattle.llcp_link.specs.Own.{dm_on};
 ghost use Rattle.llcp_link.specs.State.{holder, own_from, own_holder};
-ghost use Rattle.llcp_link.specs.Taking.{answered, breaks, ends, heard_own, is_full as has_all_answers, leaves, numbered};
+ghost use Rattle.llcp_link.specs.Taking.{answered, breaks, ends, heard_own, is_full as has_all_answers, leaves};
+ghost use Rattle.llcp_link.specs.Taking.{numbered};
 
 use crate::llc::Llc;
 use crate::own::Heard;

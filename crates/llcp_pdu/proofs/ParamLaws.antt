@@ -1,5 +1,6 @@
 -- Parameters that are spelled are read, and what is read is spelled.
-use Rattle.std.proofs.Common.{◌≡◌, ◌≤◌, ℕ, zero, suc, ◌+◌, ◌||◌, not, nat_lt, Bool, true, false, List, [], ◌∷◌, ◌++◌, length, take, drop, Option, Some, None, is_some, Result, Ok, Err, refl, sym, ◌∙◌, ap, subst, arith, length-append, length-take, slice_index_or, option_to_list}
+use Rattle.std.proofs.Common.{◌≡◌, ◌≤◌, ℕ, zero, suc, ◌+◌, ◌||◌, not, nat_lt, Bool, true, false, List, [], ◌∷◌, ◌++◌, length, take, drop, Option, Some, None, is_some, Result, Ok, Err, refl, sym, ◌∙◌}
+use Rattle.std.proofs.Common.{ap, subst, arith, length-append, length-take, slice_index_or, option_to_list}
 use Rattle.std.proofs.lemmas.Bool.Decides.{nat_tests}
 use Rattle.std.proofs.lemmas.List.{take-append-drop}
 use Rattle.llcp_pdu.specs.declared.fault.PduKind.TheVariants.{Parameter}
@@ -99,7 +100,8 @@ params_behind n xs at h =
     (params_skip (take n xs) (drop n xs) at))
 
 -- the first parameter, which has its size, in front of those behind it
-pub params_split : (xs value tail : List ℕ) (at : ℕ) → 2 ≤ length xs → slice_index_or xs 1 0 ≤ length (drop 2 xs) → value ≡ take (slice_index_or xs 1 0) (drop 2 xs) → tail ≡ drop (slice_index_or xs 1 0) (drop 2 xs)
+pub params_split : (xs value tail : List ℕ) (at : ℕ) → 2 ≤ length xs → slice_index_or xs 1 0 ≤ length (drop 2 xs) → value ≡ take (slice_index_or xs 1 0) (drop 2 xs)
+    → tail ≡ drop (slice_index_or xs 1 0) (drop 2 xs)
     → is_sized (tlv (slice_index_or xs 0 0) value) ≡ true
     → params xs 0 at ≡ kept (param (slice_index_or xs 0 0) value) (params tail 0 (at + 2 + length value))
 params_split [] value tail at h n v t s = absurd (omega arith)

@@ -22,7 +22,8 @@ inner_behind n xs at h =
     (inner_skip (take n xs) (drop n xs) at))
 
 -- the first PDU in front of those behind it
-pub inner_split : (xs one tail : List ℕ) (at n : ℕ) → 2 ≤ length xs → n ≡ 256 * slice_index_or xs 0 0 + slice_index_or xs 1 0 → n ≤ length (drop 2 xs) → one ≡ take n (drop 2 xs) → tail ≡ drop n (drop 2 xs)
+pub inner_split : (xs one tail : List ℕ) (at n : ℕ) → 2 ≤ length xs → n ≡ 256 * slice_index_or xs 0 0 + slice_index_or xs 1 0 → n ≤ length (drop 2 xs) → one ≡ take n (drop 2 xs)
+    → tail ≡ drop n (drop 2 xs)
     → inner xs 0 at ≡ joined (part one (at + 2)) (inner tail 0 (at + 2 + length one))
 inner_split [] one tail at n h size fits o t = absurd (omega arith)
 inner_split (x ∷ []) one tail at n h size fits o t = absurd (omega arith)

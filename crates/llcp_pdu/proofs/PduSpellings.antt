@@ -1,11 +1,13 @@
 -- A PDU that is spelled is read, and what is read is spelled: whole payloads.
-use Rattle.std.proofs.Common.{◌≡◌, ◌<◌, ◌≤◌, ℕ, zero, suc, ◌+◌, ◌*◌, ◌/◌, ◌%◌, nat_lt, Bool, true, false, List, [], ◌∷◌, ◌++◌, length, take, drop, Option, Some, None, Result, Ok, Err, refl, sym, ap, subst, arith, length-append, length-take}
+use Rattle.std.proofs.Common.{◌≡◌, ◌<◌, ◌≤◌, ℕ, zero, suc, ◌+◌, ◌*◌, ◌/◌, ◌%◌, nat_lt, Bool, true, false, List, [], ◌∷◌, ◌++◌, length, take, drop, Option, Some, None, Result, Ok, Err, refl, sym, ap}
+use Rattle.std.proofs.Common.{subst, arith, length-append, length-take}
 use Rattle.std.proofs.lemmas.List.{take-append-drop}
 use Rattle.llcp_pdu.specs.declared.fault.PduKind.TheVariants.{Short}
 use Rattle.llcp_pdu.specs.declared.fault.Refusal.{Refusal}
 use Rattle.llcp_pdu.specs.declared.header.Header.{Header}
 use Rattle.llcp_pdu.specs.declared.header.Ptype.{Ptype}
-use Rattle.llcp_pdu.specs.declared.header.Ptype.TheVariants.{Symm as SymmType, Agf as AgfType, Ui as UiType, Connect as ConnectType, Disc as DiscType, Cc as CcType, Dm as DmType, Frmr as FrmrType, Snl as SnlType, Info as InfoType, Rr as RrType, Rnr as RnrType}
+use Rattle.llcp_pdu.specs.declared.header.Ptype.TheVariants.{Symm as SymmType, Agf as AgfType, Ui as UiType, Connect as ConnectType, Disc as DiscType, Cc as CcType, Dm as DmType, Frmr as FrmrType}
+use Rattle.llcp_pdu.specs.declared.header.Ptype.TheVariants.{Snl as SnlType, Info as InfoType, Rr as RrType, Rnr as RnrType}
 use Rattle.llcp_pdu.specs.declared.part.Part.{Part}
 use Rattle.llcp_pdu.specs.declared.part.Part.TheVariants.{Symm, Ui, Connect, Disc, Cc, Dm, Frmr, Snl, Info, Rr, Rnr}
 use Rattle.llcp_pdu.specs.declared.pdu.Pdu.{Pdu}

@@ -1,10 +1,12 @@
 -- Where bytes are read in full, it says nothing at which place they stand.
-use Rattle.std.proofs.Common.{◌≡◌, ℕ, zero, suc, ◌+◌, ◌*◌, ◌/◌, ◌%◌, ◌==◌, ◌&&◌, nat_lt, Bool, true, false, if◌then◌else◌, List, [], ◌∷◌, ◌++◌, length, take, drop, Option, Some, None, is_ok, Result, Ok, Err, refl, sym, ◌∙◌, ap, option_to_list}
+use Rattle.std.proofs.Common.{◌≡◌, ℕ, zero, suc, ◌+◌, ◌*◌, ◌/◌, ◌%◌, ◌==◌, ◌&&◌, nat_lt, Bool, true, false, if◌then◌else◌, List, [], ◌∷◌, ◌++◌, length, take, drop, Option, Some, None, is_ok, Result}
+use Rattle.std.proofs.Common.{Ok, Err, refl, sym, ◌∙◌, ap, option_to_list}
 use Rattle.llcp_pdu.specs.declared.fault.PduKind.{PduKind}
 use Rattle.llcp_pdu.specs.declared.fault.PduKind.TheVariants.{Short, Parameter, Sap}
 use Rattle.llcp_pdu.specs.declared.fault.Refusal.{Refusal}
 use Rattle.llcp_pdu.specs.declared.header.Ptype.{Ptype}
-use Rattle.llcp_pdu.specs.declared.header.Ptype.TheVariants.{Symm as SymmType, Agf as AgfType, Ui as UiType, Connect as ConnectType, Disc as DiscType, Cc as CcType, Dm as DmType, Frmr as FrmrType, Snl as SnlType, Info as InfoType, Rr as RrType, Rnr as RnrType}
+use Rattle.llcp_pdu.specs.declared.header.Ptype.TheVariants.{Symm as SymmType, Agf as AgfType, Ui as UiType, Connect as ConnectType, Disc as DiscType, Cc as CcType, Dm as DmType, Frmr as FrmrType}
+use Rattle.llcp_pdu.specs.declared.header.Ptype.TheVariants.{Snl as SnlType, Info as InfoType, Rr as RrType, Rnr as RnrType}
 use Rattle.llcp_pdu.specs.declared.param.Param.{Param}
 use Rattle.llcp_pdu.specs.declared.part.Part.{Part}
 use Rattle.llcp_pdu.specs.declared.part.Part.TheVariants.{Symm, Connect, Disc, Cc, Dm, Frmr, Snl, Rr, Rnr}
@@ -173,7 +175,8 @@ one_refused (Ok p) r e = absurd (let f : Err r ≡ Ok (One p) = e in cc)
 one_refused (Err q) r e = (let f : ◌≡◌ {A = Result Pdu Refusal} (Err r) (Err q) = e in cc)
 
 -- a view of the first PDU
-pub shown_first : (v : PduView) (one : Result Part Refusal) (xs tail : List ℕ) → Ok (shown v) ≡ gives one One → (p : Part) × (one ≡ Ok p) × (parts_in xs ≡ p ∷ parts_in tail) → IsChecked v → IsFirst v (parts_in xs) (parts_in tail)
+pub shown_first : (v : PduView) (one : Result Part Refusal) (xs tail : List ℕ) → Ok (shown v) ≡ gives one One → (p : Part) × (one ≡ Ok p) × (parts_in xs ≡ p ∷ parts_in tail) → IsChecked v
+    → IsFirst v (parts_in xs) (parts_in tail)
 shown_first v one xs tail e (p, i, f) k =
     (p, same_shown v p (e ∙ ap (λ z. gives {B = Pdu} z One) i), f, k)
   where

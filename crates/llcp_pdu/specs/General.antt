@@ -1,5 +1,6 @@
 -- What general bytes say of an end (NFC Forum LLCP 1.3): three bytes of magic, and then parameters.
-use Rattle.std.specs.Prelude.{◌≡◌, ◌≤◌, ◌<◌, ℕ, ◌+◌, ◌-◌, ◌/◌, ◌==◌, ◌&&◌, if◌then◌else◌, List, [], ◌∷◌, ◌++◌, Option, Some, None, unwrap_or, Result, Ok, Err}
+use Rattle.std.specs.Prelude.{◌≡◌, ◌≤◌, ◌<◌, ℕ, ◌+◌, ◌-◌, ◌/◌, ◌==◌, ◌&&◌, if◌then◌else◌, List, [], ◌∷◌, ◌++◌, Option}
+use Rattle.std.specs.Prelude.{Some, None, unwrap_or, Result, Ok, Err}
 use Rattle.llcp_pdu.specs.declared.fault.Refusal.{Refusal}
 use Rattle.llcp_pdu.specs.declared.general.GeneralFault.{GeneralFault}
 use Rattle.llcp_pdu.specs.declared.general.GeneralFault.TheVariants.{NoMagic, NoVersion, OtherMajor, Malformed}
@@ -28,7 +29,8 @@ said (Ok ps) = spoken (last_of version_in ps) (miu_by least_miu (last_of miux_in
 
 -- what stands behind the magic, where it is there
 abbrev pub unmasked : List ℕ → Option (List ℕ)
-unmasked (a ∷ b ∷ c ∷ rest) = if (a == magic_first) && ((b == magic_second) && (c == magic_third)) then Some rest else None
+unmasked (a ∷ b ∷ c ∷ rest) = if (a == magic_first) && ((b == magic_second) && (c == magic_third)) then Some rest
+    else None
 unmasked _ = None
 
 abbrev pub said_behind : Option (List ℕ) → Result LinkParams GeneralFault

@@ -1,10 +1,13 @@
 -- How parameters stand in bytes: each is a type, a length and a value (NFC Forum LLCP 1.3).
-use Rattle.std.specs.Prelude.{◌≡◌, ℕ, ◌+◌, ◌*◌, ◌%◌, ◌==◌, ◌&&◌, ◌||◌, not, nat_lt, nat_le, Bool, true, false, if◌then◌else◌, List, [], ◌∷◌, ◌++◌, length, take, Option, Some, None, is_some, Result, Ok, zero, suc}
+use Rattle.std.specs.Prelude.{◌≡◌, ℕ, ◌+◌, ◌*◌, ◌%◌, ◌==◌, ◌&&◌, ◌||◌, not, nat_lt, nat_le, Bool, true, false}
+use Rattle.std.specs.Prelude.{if◌then◌else◌, List, [], ◌∷◌, ◌++◌, length, take, Option, Some, None, is_some, Result, Ok}
+use Rattle.std.specs.Prelude.{zero, suc}
 use Rattle.llcp_pdu.specs.declared.fault.PduKind.TheVariants.{Parameter}
 use Rattle.llcp_pdu.specs.declared.fault.Refusal.{Refusal}
 use Rattle.llcp_pdu.specs.declared.param.Param.{Param}
 use Rattle.llcp_pdu.specs.declared.param.Param.TheVariants.{Version, Miux, Wks, Lto, Rw, Sn, Opt, SdReq, SdRes}
-use Rattle.llcp_pdu.specs.Wire.{version_type, miux_type, wks_type, lto_type, rw_type, sn_type, opt_type, sdreq_type, sdres_type, miux_end, rw_end}
+use Rattle.llcp_pdu.specs.Wire.{version_type, miux_type, wks_type, lto_type, rw_type, sn_type, opt_type, sdreq_type}
+use Rattle.llcp_pdu.specs.Wire.{sdres_type, miux_end, rw_end}
 use Rattle.llcp_pdu.specs.Reading.{refused, onto}
 
 -- values of one byte, of two, and of one or more

@@ -1,15 +1,20 @@
--- What one PDU that is no AGF is read as (NFC Forum LLCP 1.3), or its first fault: a header that is short, its PTYPE, its
--- SAPs, and then what follows.
-use Rattle.std.specs.Prelude.{ℕ, ◌+◌, ◌-◌, ◌*◌, ◌/◌, ◌%◌, ◌==◌, ◌&&◌, if◌then◌else◌, List, [], ◌∷◌, length, drop, Option, Some, None, Result, Ok}
+-- What one PDU that is no AGF is read as (NFC Forum LLCP 1.3), or its first fault: a header that is short, its PTYPE,
+-- its SAPs, and then what follows.
+use Rattle.std.specs.Prelude.{ℕ, ◌+◌, ◌-◌, ◌*◌, ◌/◌, ◌%◌, ◌==◌, ◌&&◌, if◌then◌else◌, List, [], ◌∷◌, length, drop}
+use Rattle.std.specs.Prelude.{Option, Some, None, Result, Ok}
 use Rattle.llcp_pdu.specs.declared.fault.PduKind.TheVariants.{Short, Ptype as WrongPtype, Sap, Nested}
 use Rattle.llcp_pdu.specs.declared.fault.Refusal.{Refusal}
 use Rattle.llcp_pdu.specs.declared.header.Header.{Header}
 use Rattle.llcp_pdu.specs.declared.header.Ptype.{Ptype}
-use Rattle.llcp_pdu.specs.declared.header.Ptype.TheVariants.{Symm as SymmType, Agf as AgfType, Ui as UiType, Connect as ConnectType, Disc as DiscType, Cc as CcType, Dm as DmType, Frmr as FrmrType, Snl as SnlType, Info as InfoType, Rr as RrType, Rnr as RnrType}
+use Rattle.llcp_pdu.specs.declared.header.Ptype.TheVariants.{Symm as SymmType, Agf as AgfType, Ui as UiType}
+use Rattle.llcp_pdu.specs.declared.header.Ptype.TheVariants.{Connect as ConnectType, Disc as DiscType, Cc as CcType}
+use Rattle.llcp_pdu.specs.declared.header.Ptype.TheVariants.{Dm as DmType, Frmr as FrmrType, Snl as SnlType}
+use Rattle.llcp_pdu.specs.declared.header.Ptype.TheVariants.{Info as InfoType, Rr as RrType, Rnr as RnrType}
 use Rattle.llcp_pdu.specs.declared.part.FrmrReport.{FrmrReport}
 use Rattle.llcp_pdu.specs.declared.part.Part.{Part}
 use Rattle.llcp_pdu.specs.declared.part.Part.TheVariants.{Symm, Ui, Connect, Disc, Cc, Dm, Frmr, Snl, Info, Rr, Rnr}
-use Rattle.llcp_pdu.specs.Wire.{symm_type, agf_type, ui_type, connect_type, disc_type, cc_type, dm_type, frmr_type, snl_type, info_type, rr_type, rnr_type, discovery_sap}
+use Rattle.llcp_pdu.specs.Wire.{symm_type, agf_type, ui_type, connect_type, disc_type, cc_type, dm_type, frmr_type}
+use Rattle.llcp_pdu.specs.Wire.{snl_type, info_type, rr_type, rnr_type, discovery_sap}
 use Rattle.llcp_pdu.specs.Reading.{refused, gives, follows, ended, byte}
 use Rattle.llcp_pdu.specs.Params.{params}
 
@@ -19,8 +24,10 @@ pick p n t other = if p == n then Some t else other
 
 abbrev pub ptype_of : ℕ → Option Ptype
 ptype_of p =
-    pick p symm_type SymmType (pick p agf_type AgfType (pick p ui_type UiType (pick p connect_type ConnectType (pick p disc_type DiscType
-    (pick p cc_type CcType (pick p dm_type DmType (pick p frmr_type FrmrType (pick p snl_type SnlType (pick p info_type InfoType
+    pick p symm_type SymmType
+    (pick p agf_type AgfType (pick p ui_type UiType (pick p connect_type ConnectType (pick p disc_type DiscType
+    (pick p cc_type CcType
+    (pick p dm_type DmType (pick p frmr_type FrmrType (pick p snl_type SnlType (pick p info_type InfoType
     (pick p rr_type RrType (pick p rnr_type RnrType None)))))))))))
 
 -- A header is six bits of DSAP, four of PTYPE and six of SSAP, high bits first.
@@ -43,7 +50,15 @@ between sap d s at r = if (d == sap) && (s == sap) then r else refused Sap at
 -- a FRMR's flags and PTYPE, sequence byte, V(S) and V(R), V(SA) and V(RA)
 abbrev pub report : List ℕ → ℕ → Result FrmrReport Refusal
 report (a ∷ b ∷ c ∷ d ∷ rest) at =
-    ended rest (at + 4) (record { flags = 16 * (a / 16); ptype = a % 16; sequence = b; vs = c / 16; vr = c % 16; vsa = d / 16; vra = d % 16 })
+    ended rest (at + 4) (record {
+      flags = 16 * (a / 16);
+      ptype = a % 16;
+      sequence = b;
+      vs = c / 16;
+      vr = c % 16;
+      vsa = d / 16;
+      vra = d % 16;
+    })
 report xs at = refused Short (at + length xs)
 
 -- N(S) and N(R), and then information

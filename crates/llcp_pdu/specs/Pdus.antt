@@ -1,5 +1,6 @@
 -- What a whole payload is read as (NFC Forum LLCP 1.3), or its first fault.
-use Rattle.std.specs.Prelude.{ℕ, ◌+◌, ◌*◌, nat_lt, Bool, true, false, if◌then◌else◌, List, [], ◌∷◌, length, take, drop, Result, Ok, zero, suc}
+use Rattle.std.specs.Prelude.{ℕ, ◌+◌, ◌*◌, nat_lt, Bool, true, false, if◌then◌else◌, List, [], ◌∷◌, length, take, drop}
+use Rattle.std.specs.Prelude.{Result, Ok, zero, suc}
 use Rattle.llcp_pdu.specs.declared.fault.PduKind.TheVariants.{Short}
 use Rattle.llcp_pdu.specs.declared.fault.Refusal.{Refusal}
 use Rattle.llcp_pdu.specs.declared.header.Header.{Header}

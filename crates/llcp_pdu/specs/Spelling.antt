@@ -5,7 +5,8 @@ use Rattle.llcp_pdu.specs.declared.part.Part.{Part}
 use Rattle.llcp_pdu.specs.declared.part.Part.TheVariants.{Symm, Ui, Connect, Disc, Cc, Dm, Frmr, Snl, Info, Rr, Rnr}
 use Rattle.llcp_pdu.specs.declared.pdu.Pdu.{Pdu}
 use Rattle.llcp_pdu.specs.declared.pdu.Pdu.TheVariants.{Agf, One}
-use Rattle.llcp_pdu.specs.Wire.{symm_type, agf_type, ui_type, connect_type, disc_type, cc_type, dm_type, frmr_type, snl_type, info_type, rr_type, rnr_type, discovery_sap}
+use Rattle.llcp_pdu.specs.Wire.{symm_type, agf_type, ui_type, connect_type, disc_type, cc_type, dm_type, frmr_type}
+use Rattle.llcp_pdu.specs.Wire.{snl_type, info_type, rr_type, rnr_type, discovery_sap}
 use Rattle.llcp_pdu.specs.Params.{ParamsSpelling}
 
 -- the two bytes of a header: DSAP, PTYPE, SSAP
@@ -41,7 +42,8 @@ PartSpelling (Cc d s ps) b = Headed d cc_type s b (ParamsSpelling ps)
 PartSpelling (Dm d s reason) b = Headed d dm_type s b (λ rest. rest ≡ reason ∷ [])
 PartSpelling (Frmr d s r) b = Headed d frmr_type s b (λ rest. IsReport r × (rest ≡ report_bytes r))
 PartSpelling (Snl ps) b = Headed discovery_sap snl_type discovery_sap b (ParamsSpelling ps)
-PartSpelling (Info d s ns nr info) b = Headed d info_type s b (λ rest. (ns < 16) × (nr < 16) × (rest ≡ (16 * ns + nr) ∷ info))
+PartSpelling (Info d s ns nr info) b = Headed d info_type s b
+    (λ rest. (ns < 16) × (nr < 16) × (rest ≡ (16 * ns + nr) ∷ info))
 PartSpelling (Rr d s nr) b = Headed d rr_type s b (Receives nr)
 PartSpelling (Rnr d s nr) b = Headed d rnr_type s b (Receives nr)
 

@@ -1,5 +1,6 @@
 -- What a payload is read as in place: what a view shows, where its slices stand, and what was checked of them.
-use Rattle.std.specs.Prelude.{◌≡◌, List, [], ◌∷◌, ℕ, drop, min, is_ok, true, option_map, Option, None, Some, Result, Ok, Err}
+use Rattle.std.specs.Prelude.{◌≡◌, List, [], ◌∷◌, ℕ, drop, min, is_ok, true, option_map, Option, None, Some, Result, Ok}
+use Rattle.std.specs.Prelude.{Err}
 use Rattle.llcp_pdu.specs.declared.connect.ConnectParams.{ConnectParams}
 use Rattle.llcp_pdu.specs.declared.fault.PduRefusal.{PduRefusal}
 use Rattle.llcp_pdu.specs.declared.fault.Refusal.{Refusal}
@@ -12,7 +13,8 @@ use Rattle.llcp_pdu.specs.declared.part.Part.TheVariants as part
 use Rattle.llcp_pdu.specs.declared.pdu.Pdu.{Pdu}
 use Rattle.llcp_pdu.specs.declared.pdu.Pdu.TheVariants as pdu
 use Rattle.llcp_pdu.specs.declared.pdu_view.PduView.{PduView}
-use Rattle.llcp_pdu.specs.declared.pdu_view.PduView.TheVariants.{Symm, Agf, Ui, Connect, Disc, Cc, Dm, Frmr, Snl, Info, Rr, Rnr}
+use Rattle.llcp_pdu.specs.declared.pdu_view.PduView.TheVariants.{Symm, Agf, Ui, Connect, Disc, Cc, Dm, Frmr, Snl, Info}
+use Rattle.llcp_pdu.specs.declared.pdu_view.PduView.TheVariants.{Rr, Rnr}
 use Rattle.llcp_pdu.specs.Params.{params}
 use Rattle.llcp_pdu.specs.Pdus.{inner}
 use Rattle.llcp_pdu.specs.Wire.{last_place}

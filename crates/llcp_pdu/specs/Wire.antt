@@ -1,7 +1,8 @@
 -- The numbers of the wire (NFC Forum LLCP 1.3).
 use Rattle.std.specs.Prelude.{ℕ, List, [], ◌∷◌}
 use Rattle.llcp_pdu.specs.declared.header.Ptype.{Ptype}
-use Rattle.llcp_pdu.specs.declared.header.Ptype.TheVariants.{Symm, Agf, Ui, Connect, Disc, Cc, Dm, Frmr, Snl, Info, Rr, Rnr}
+use Rattle.llcp_pdu.specs.declared.header.Ptype.TheVariants.{Symm, Agf, Ui, Connect, Disc, Cc, Dm, Frmr, Snl, Info, Rr}
+use Rattle.llcp_pdu.specs.declared.header.Ptype.TheVariants.{Rnr}
 
 -- the types of PDU
 abbrev pub symm_type : ℕ

@@ -7,7 +7,9 @@ use Rattle.llcp_pdu.specs.declared.part.Part.{Part}
 use Rattle.llcp_pdu.specs.declared.part.Part.TheVariants.{Symm, Ui, Connect, Disc, Cc, Dm, Frmr, Snl, Info, Rr, Rnr}
 use Rattle.llcp_pdu.specs.declared.pdu.Pdu.{Pdu}
 use Rattle.llcp_pdu.specs.declared.pdu.Pdu.TheVariants.{Agf, One}
-use Rattle.llcp_pdu.specs.Wire.{symm_type, agf_type, ui_type, connect_type, disc_type, cc_type, dm_type, frmr_type, snl_type, info_type, rr_type, rnr_type, discovery_sap, version_type, miux_type, wks_type, lto_type, rw_type, sn_type, opt_type, sdreq_type, sdres_type}
+use Rattle.llcp_pdu.specs.Wire.{symm_type, agf_type, ui_type, connect_type, disc_type, cc_type, dm_type, frmr_type}
+use Rattle.llcp_pdu.specs.Wire.{snl_type, info_type, rr_type, rnr_type, discovery_sap, version_type, miux_type}
+use Rattle.llcp_pdu.specs.Wire.{wks_type, lto_type, rw_type, sn_type, opt_type, sdreq_type, sdres_type}
 use Rattle.llcp_pdu.specs.Params.{Tlv, tlv, printed}
 use Rattle.llcp_pdu.specs.Spelling.{head, report_bytes}
 

@@ -2,7 +2,8 @@
 
 ghost use Rattle.std.specs.Prelude.{◌≡◌, ◌≤◌, ◌+◌, ◌++◌, ◌↔◌, length, option_copied, option_map, Ok, Some, IfOk};
 ghost use Rattle.arrayvec.specs.ArrayVec.{array_vec_len};
-ghost use Rattle.llcp_pdu.specs.General.{general, general_bytes, unmasked as unmasked_of, heard, spoken, miux_of, IsMiu, IsLinkParams};
+ghost use Rattle.llcp_pdu.specs.General.{general, general_bytes, unmasked as unmasked_of, heard, spoken, miux_of};
+ghost use Rattle.llcp_pdu.specs.General.{IsMiu, IsLinkParams};
 ghost use Rattle.llcp_pdu.specs.Numbers.{general_fault_number};
 ghost use Rattle.llcp_pdu.specs.Params.{param};
 ghost use Rattle.llcp_pdu.specs.Wire.{least_miu};
@@ -114,7 +115,8 @@ fn unmasked(bytes: &[u8]) -> Option<&[u8]>
     }
 }
 
-/// What general bytes say of the end that sent them. It takes no memory. The order of its refusals is this project's own.
+/// What general bytes say of the end that sent them. It takes no memory. The order of its refusals is this project's
+/// own.
 pub fn general_read(bytes: &[u8]) -> Result<LinkParams, GeneralFault>
     ensures exact { result ≡ general bytes.now }
     ensures range { IfOk result IsLinkParams }

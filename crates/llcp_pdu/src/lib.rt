@@ -1,10 +1,11 @@
 //! The PDUs that two LLCP ends send each other, and the general bytes with which a link begins (NFC Forum LLCP 1.3).
 //!
-//! `pdu_view` reads a payload in place; `param_walk` goes over the parameters of what it saw, `inner_walk` over the PDUs
-//! in an AGF, and `connect` has what the parameters of a CONNECT say together: none of these takes memory. `pdu` copies
-//! what was seen and writes a whole payload; `part` is a PDU that holds no other; `param` is a parameter of CONNECT, CC
-//! and SNL; `header` is the first two bytes of each PDU; `general` is the general bytes; `fault` says what is wrong with
-//! bytes that are no PDU, and where. `wire` has the numbers of all these, and `lengths` says how many bytes a PDU has.
+//! `pdu_view` reads a payload in place; `param_walk` goes over the parameters of what it saw, `inner_walk` over the
+//! PDUs in an AGF, and `connect` has what the parameters of a CONNECT say together: none of these takes memory. `pdu`
+//! copies what was seen and writes a whole payload; `part` is a PDU that holds no other; `param` is a parameter of
+//! CONNECT, CC and SNL; `header` is the first two bytes of each PDU; `general` is the general bytes; `fault` says what
+//! is wrong with bytes that are no PDU, and where. `wire` has the numbers of all these, and `lengths` says how many
+//! bytes a PDU has.
 #![tactic(auto)]
 
 mod connect;

@@ -1,7 +1,9 @@
 //! The parameters of CONNECT, CC and SNL, read in place.
 
-ghost use Rattle.std.specs.Prelude.{◌≡◌, ◌+◌, ◌*◌, ◌<◌, ◌^◌, ℕ, List, length, option_map, OnOk, IfSome, IfNone, [], ◌∷◌, true};
-ghost use Rattle.llcp_pdu.specs.Params.{one as one_of, two as two_of, param, params, params_first, is_sized as has_size, tlv};
+ghost use Rattle.std.specs.Prelude.{◌≡◌, ◌+◌, ◌*◌, ◌<◌, ◌^◌, ℕ, List, length, option_map, OnOk, IfSome, IfNone, []};
+ghost use Rattle.std.specs.Prelude.{◌∷◌, true};
+ghost use Rattle.llcp_pdu.specs.Params.{one as one_of, two as two_of, param, params, params_first};
+ghost use Rattle.llcp_pdu.specs.Params.{is_sized as has_size, tlv};
 ghost use Rattle.llcp_pdu.specs.Reading.{refused, gives};
 ghost use Rattle.llcp_pdu.specs.Views.{HoldsParams, params_in, shown_param};
 ghost use Rattle.llcp_pdu.specs.declared.fault.PduKind.TheVariants.{Parameter};

@@ -227,7 +227,8 @@ fn append_listing(
     requires dsap { dsap < 64 }
     requires ssap { ssap < 64 }
     requires params { AreParams params.now }
-    ensures { OnOk result (target.new.items ≡ target.old.items ++ head dsap (ptype_number ptype) ssap ++ params_bytes params.now) }
+    ensures { OnOk result (target.new.items ≡ target.old.items ++ head dsap (ptype_number ptype) ssap
+        ++ params_bytes params.now) }
 {
     append_head(target, dsap, ptype, ssap)?;
     append_params(target, params)

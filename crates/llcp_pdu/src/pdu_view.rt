@@ -8,7 +8,8 @@ ghost use Rattle.llcp_pdu.specs.Ranges.{IsPdu};
 ghost use Rattle.llcp_pdu.specs.Reading.{gives};
 ghost use Rattle.llcp_pdu.specs.Spelling.{LlcpSpelling};
 ghost use Rattle.llcp_pdu.specs.Views.{IsViewOf, Shows, seen, shown, refusal_told};
-ghost use Rattle.llcp_pdu.specs.declared.header.Ptype.TheVariants.{Cc as CcType, Connect as ConnectType, Symm as SymmType, Snl as SnlType};
+ghost use Rattle.llcp_pdu.specs.declared.header.Ptype.TheVariants.{Cc as CcType, Connect as ConnectType};
+ghost use Rattle.llcp_pdu.specs.declared.header.Ptype.TheVariants.{Symm as SymmType, Snl as SnlType};
 ghost use Rattle.llcp_pdu.specs.declared.pdu.Pdu.{Pdu};
 
 use crate::fault::{PduKind, PduRefusal, Refusal};

@@ -1,7 +1,7 @@
 //! The tests of `llcp_link`, over its public calls.
 //!
-//! `ends` is what the tests of an end have in common: two services, and an end at SAP 4 over each. This crate is one of its own
-//! since a crate with tests is proved a second time with them.
+//! `ends` is what the tests of an end have in common: two services, and an end at SAP 4 over each. This crate is one of
+//! its own since a crate with tests is proved a second time with them.
 #![tactic(auto)]
 
 #[cfg(test)]

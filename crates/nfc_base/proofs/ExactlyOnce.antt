@@ -3,7 +3,8 @@
 use Rattle.std.proofs.Common.{◌≡◌, ℕ, ◌+◌, ◌-◌, ◌*◌, ◌≤◌, List, [], ◌∷◌, ◌++◌, Option, Some, None, refl, sym, ◌∙◌, ap, subst, arith, append-nil}
 use Rattle.nfc_base.specs.declared.event.Fate.{Fate}
 use Rattle.nfc_base.specs.declared.event.Fate.TheVariants.{Pass, Damage, Lose, Break}
-use Rattle.nfc_base.specs.StopAndWait.{Does, Quiet, Reply, Deliver, Hears, Whole, Damaged, Silent, Finished, SixBad, Protocol, Next, Send, Ends, StopAndWait, Stage, Requests, Answers, Over, Dark, stage_of, World, badness, counted, answering_does, darkened, transmitted, run, delivered_of, pieces_back, IsEnding, Once}
+use Rattle.nfc_base.specs.StopAndWait.{Does, Quiet, Reply, Deliver, Hears, Whole, Damaged, Silent, Finished, SixBad, Protocol, Next, Send, Ends, StopAndWait, Stage, Requests, Answers, Over, Dark}
+use Rattle.nfc_base.specs.StopAndWait.{stage_of, World, badness, counted, answering_does, darkened, transmitted, run, delivered_of, pieces_back, IsEnding, Once}
 
 -- The number of pieces behind the first, of a reply that was given.
 abbrev pub more_of : (List ℕ → ℕ) → Option (List ℕ) → ℕ

@@ -5,7 +5,8 @@ use Rattle.std.specs.Option.{option_to_list}
 use Rattle.nfc_base.specs.Signal.{Signal}
 use Rattle.nfc_base.specs.Trace.{back_of, heard_by, breaks}
 use Rattle.nfc_base.specs.Trace as backs
-use Rattle.nfc_base.specs.StopAndWait.{Does, Quiet, Reply, Deliver, Hears, Silent, StopAndWait, Stage, Requests, Answers, Dark, stage_of, World, badness, counted, hears, answering_does, transmitted, delivered_of}
+use Rattle.nfc_base.specs.StopAndWait.{Does, Quiet, Reply, Deliver, Hears, Silent, StopAndWait, Stage, Requests, Answers, Dark, stage_of, World, badness, counted, hears, answering_does, transmitted}
+use Rattle.nfc_base.specs.StopAndWait.{delivered_of}
 use Rattle.nfc_base.specs.LinkTurns.{heard_in, with_arrived, arrived, bads_heard, bad_receptions, Turned, MovedBy, GivenBy, settled, step, sent_back, answered, turned, IsTurn}
 use Rattle.nfc_base.specs.declared.event.Event.{Event}
 use Rattle.nfc_base.specs.declared.event.Event.TheVariants.{Reset, Request, Answer, Clash}

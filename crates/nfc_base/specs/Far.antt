@@ -9,10 +9,12 @@ pub data FarUse : Type 0 where
   Hands : List ℕ → FarUse
 
 -- The far end did what was asked of it, and this is its reply, where it gave one. A reply has at most 2,178 bytes.
-abbrev pub FarDid : {A : Type 0} → (A → List ℕ → A → Type 0) → (A → List ℕ → List ℕ → A → Type 0) → FarUse → A → Option (List ℕ) → A → Type 0
+abbrev pub FarDid : {A : Type 0} → (A → List ℕ → A → Type 0) → (A → List ℕ → List ℕ → A → Type 0) → FarUse → A
+    → Option (List ℕ) → A → Type 0
 FarDid restarts steps Untouched old reply new = (new ≡ old) × (reply ≡ None)
 FarDid restarts steps (Restarts general) old reply new = restarts old general new × (reply ≡ None)
-FarDid restarts steps (Hands payload) old reply new = (r : List ℕ) × steps old payload r new × (length r ≤ 2178) × (reply ≡ Some r)
+FarDid restarts steps (Hands payload) old reply new =
+    (r : List ℕ) × steps old payload r new × (length r ≤ 2178) × (reply ≡ Some r)
 
 -- an empty reply does
 pub empty_fits : (reply : List ℕ) → reply ≡ [] → length reply ≤ 2178

@@ -1,5 +1,5 @@
--- Turns of a link that stops and waits, as events of a field: what one turn changes at the answering end and adds to the trace,
--- and what a trace tells of an exchange (NFC Forum Digital Protocol; the air is this project's own).
+-- Turns of a link that stops and waits, as events of a field: what one turn changes at the answering end and adds to
+-- the trace, and what a trace tells of an exchange (NFC Forum Digital Protocol; the air is this project's own).
 use Rattle.std.specs.Prelude.{◌≡◌, ℕ, ◌+◌, List, [], ◌∷◌, ◌++◌, if◌then◌else◌, Option, Some, None}
 use Rattle.nfc_base.specs.Signal.{Signal}
 use Rattle.nfc_base.specs.Trace.{by_fate, back_of, heard_by, is_bad_in_wait}
@@ -87,7 +87,12 @@ module _ {I T : Type 0} (L : StopAndWait I T Signal) where
   -- an answer comes back
   abbrev pub sent_back : T → Option (List ℕ) → Signal → Signal → Fate → Turned T
   sent_back t asked f a y =
-      record { answering = by_fate y t t (L.dark t); heard = hears_at y a; asked = asked; events = Request f Pass ∷ Answer a y ∷ [] }
+      record {
+        answering = by_fate y t t (L.dark t);
+        heard = hears_at y a;
+        asked = asked;
+        events = Request f Pass ∷ Answer a y ∷ [];
+      }
 
   abbrev pub answered : T → Option (List ℕ) → Signal → Option Signal → Fate → Turned T
   answered t asked f None y = record { answering = t; heard = Some Silent; asked = asked; events = Request f Pass ∷ [] }
@@ -100,8 +105,10 @@ module _ {I T : Type 0} (L : StopAndWait I T Signal) where
       (record { answering = t; heard = Some Silent; asked = None; events = Request f x ∷ [] })
       (record { answering = L.dark t; heard = None; asked = None; events = Request f x ∷ [] })
 
-  -- From an answering end, a trace and a far end to others a turn was made, of which that was heard. Its reply keeps Fits.
-  pub record IsTurn (E : Type 0) (Fits : List ℕ → Type 0) (steps : E → List ℕ → List ℕ → E → Type 0) (t : T) (es : List Event) (far : E) (f : Signal)
+  -- From an answering end, a trace and a far end to others a turn was made, of which that was heard. Its reply keeps
+  -- Fits.
+  pub record IsTurn (E : Type 0) (Fits : List ℕ → Type 0) (steps : E → List ℕ → List ℕ → E → Type 0) (t : T)
+      (es : List Event) (far : E) (f : Signal)
       (heard : Option Heard) (t' : T) (es' : List Event) (far' : E) : Type 0 where
     pub reply : List ℕ
     pub first : Fate

@@ -1,5 +1,6 @@
 -- What contracts see of a link, and what ends one.
-use Rattle.std.specs.Prelude.{◌≡◌, ℕ, ◌<◌, ◌≤◌, ◌⊎◌, List, [], ◌∷◌, ◌++◌, Bool, true, false, Option, Some, None, Result, Err}
+use Rattle.std.specs.Prelude.{◌≡◌, ℕ, ◌<◌, ◌≤◌, ◌⊎◌, List, [], ◌∷◌, ◌++◌, Bool, true, false, Option, Some, None, Result}
+use Rattle.std.specs.Prelude.{Err}
 use Rattle.nfc_base.specs.declared.carrier.EndCause.{EndCause}
 use Rattle.nfc_base.specs.declared.carrier.EndCause.TheVariants.{FieldLost, SixBad, Protocol, Memory}
 use Rattle.nfc_base.specs.declared.carrier.LinkEnd.{LinkEnd}
@@ -55,7 +56,8 @@ pub record SwapDone {A : Type 0} (steps : A → List ℕ → List ℕ → A → 
 -- of memory left unfinished, where not. The payload was handed over exactly where it stepped.
 abbrev pub FarLeft : {A : Type 0} → (A → List ℕ → List ℕ → A → Type 0) → (A → List ℕ → A → Type 0) → Bool → EndCause
     → List (List ℕ) → List (List ℕ) → List ℕ → A → A → Type 0
-FarLeft steps stops true cause old new out far after = ((reply : List ℕ) × steps far out reply after) × (new ≡ old ++ out ∷ [])
+FarLeft steps stops true cause old new out far after =
+    ((reply : List ℕ) × steps far out reply after) × (new ≡ old ++ out ∷ [])
 FarLeft steps stops false cause old new out far after =
     ((after ≡ far) × (new ≡ old)) ⊎ ((cause ≡ Memory) × stops far out after × (new ≡ old ++ out ∷ []))
 
@@ -68,7 +70,8 @@ pub record SwapFailed {A : Type 0} (steps : A → List ℕ → List ℕ → A �
   pub left : FarLeft steps stops e.answered e.cause old.handed new.handed out far after
 
 -- A swap on a link that was over: the same cause, the far end makes no step, and nothing changes.
-pub record SwapRefused {A V : Type 0} (old new : CarrierView) (c : EndCause) (far after : A) (result : Result V LinkEnd) : Type 0 where
+pub record SwapRefused {A V : Type 0} (old new : CarrierView) (c : EndCause) (far after : A) (result : Result V LinkEnd)
+    : Type 0 where
   pub fault : result ≡ Err (record { cause = c; answered = false })
   pub same : new ≡ old
   pub rests : after ≡ far
@@ -102,14 +105,17 @@ AskedBy true cause out did = (reply : List ℕ) × (did ≡ Stepped out reply �
 AskedBy false cause out did = (did ≡ []) ⊎ ((cause ≡ Memory) × (did ≡ Stopped out ∷ []))
 
 -- A swap with this answer was one swap of its link, in which the far end went by the same steps.
-pub record Swapped {C A : Type 0} (swaps : C → List ℕ → List FarStep → C → Type 0) (steps : A → List ℕ → List ℕ → A → Type 0)
-    (stops : A → List ℕ → A → Type 0) (old : C) (out : List ℕ) (far : A) (new : C) (after : A) (asked : List FarStep → Type 0) : Type 0 where
+pub record Swapped {C A : Type 0} (swaps : C → List ℕ → List FarStep → C → Type 0)
+    (steps : A → List ℕ → List ℕ → A → Type 0)
+    (stops : A → List ℕ → A → Type 0) (old : C) (out : List ℕ) (far : A) (new : C) (after : A)
+    (asked : List FarStep → Type 0) : Type 0 where
   pub did : List FarStep
   pub link : swaps old out did new
   pub far_moved : FarMoved steps stops did far after
   pub tells : asked did
 
--- A link came from one state to another: in each of these steps of the far end its payload was swapped once, and nothing else was.
+-- A link came from one state to another: in each of these steps of the far end its payload was swapped once, and
+-- nothing else was.
 abbrev pub BySwaps : {C : Type 0} → (C → List ℕ → List FarStep → C → Type 0) → List FarStep → C → C → Type 0
 BySwaps swaps [] a b = b ≡ a
 BySwaps {C} swaps (x ∷ did) a b = (mid : C) × swaps a (step_payload x) (x ∷ []) mid × BySwaps swaps did mid b

@@ -1,7 +1,8 @@
 -- What an asking end has of an exchange in which payload and reply are sent in pieces, and in which the answering end
 -- may ask for more time (ISO/IEC 14443-4; NFCIP-1, ISO/IEC 18092; NFC Forum Digital Protocol). The numbers of bad
 -- receptions and of time extensions are this project's own.
-use Rattle.std.specs.Prelude.{ℕ, ◌+◌, ◌-◌, ◌/◌, nat_lt, Bool, true, false, not, List, [], length, Option, None, if◌then◌else◌}
+use Rattle.std.specs.Prelude.{ℕ, ◌+◌, ◌-◌, ◌/◌, nat_lt, Bool, true, false, not, List, [], length, Option, None}
+use Rattle.std.specs.Prelude.{if◌then◌else◌}
 
 -- how many pieces some bytes take, by the most content of each
 abbrev pub pieces : ℕ → List ℕ → ℕ

@@ -1,9 +1,11 @@
 -- Exchanges one after another on one link that stops and waits, each over an air of its own (this project's own air),
 -- and the law of them.
-use Rattle.std.specs.Prelude.{◌≡◌, ◌⊎◌, ℕ, ◌≤◌, Bool, false, if◌then◌else◌, List, [], ◌∷◌, ◌++◌, length, Option, Some, None}
+use Rattle.std.specs.Prelude.{◌≡◌, ◌⊎◌, ℕ, ◌≤◌, Bool, false, if◌then◌else◌, List, [], ◌∷◌, ◌++◌, length, Option, Some}
+use Rattle.std.specs.Prelude.{None}
 use Rattle.std.specs.List.{AllByRecursion}
 use Rattle.std.specs.Option.{is_some, option_to_list}
-use Rattle.nfc_base.specs.StopAndWait.{Finished, SixBad, Protocol, Stage, Requests, Answers, Over, Dark, StopAndWait, World, run}
+use Rattle.nfc_base.specs.StopAndWait.{Finished, SixBad, Protocol, Stage, Requests, Answers, Over, Dark, StopAndWait}
+use Rattle.nfc_base.specs.StopAndWait.{World, run}
 use Rattle.nfc_base.specs.declared.event.Fate.{Fate}
 
 -- an exchange begins with this frame, behind those in which these payloads were delivered and these frames arrived

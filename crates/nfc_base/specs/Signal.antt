@@ -1,4 +1,5 @@
--- What a frame is on the air: a technology and some bits, packed into bytes (NFC Forum Digital Protocol; ISO/IEC 14443-3).
+-- What a frame is on the air: a technology and some bits, packed into bytes (NFC Forum Digital Protocol; ISO/IEC
+-- 14443-3).
 use Rattle.std.specs.Prelude.{◌≡◌, ℕ, ◌-◌, ◌<◌, ◌≤◌, ◌^◌, ◌⊎◌, List, length, slice_index, Bool, true, false, ◌==◌, ◌&&◌}
 use Rattle.nfc_base.specs.declared.frame.Tech.{Tech}
 use Rattle.nfc_base.specs.declared.frame.Tech.TheVariants.{A, V, F}

@@ -1,6 +1,6 @@
--- A link that stops and waits, of any frames and numbers: an asking end sends one frame and waits, an answering end says one
--- frame at a time and only when it is asked (ISO/IEC 14443-4; ISO/IEC 18092; NFC Forum Digital Protocol). The air
--- between them, in which each transmission has a fate, is this project's own.
+-- A link that stops and waits, of any frames and numbers: an asking end sends one frame and waits, an answering end
+-- says one frame at a time and only when it is asked (ISO/IEC 14443-4; ISO/IEC 18092; NFC Forum Digital Protocol). The
+-- air between them, in which each transmission has a fate, is this project's own.
 use Rattle.std.specs.Prelude.{◌≡◌, ℕ, ◌+◌, ◌-◌, ◌*◌, ◌≤◌, List, [], ◌∷◌, ◌++◌, Option, Some, None}
 use Rattle.nfc_base.specs.declared.event.Fate.{Fate}
 use Rattle.nfc_base.specs.declared.event.Fate.TheVariants.{Pass, Damage, Lose, Break}
@@ -88,11 +88,17 @@ module _ {I T F : Type 0} (L : StopAndWait I T F) where
   answering_does far w t Quiet = hears (record w { answering = t }) Silent
   answering_does far w t (Reply a) = record w { answering = t; stage = Answers a }
   answering_does far w t (Deliver p) =
-      record w { answering = L.replied t (far p); stage = Answers (L.answer t (far p)); given = Some (far p); delivered = w.delivered ++ p ∷ [] }
+      record w {
+        answering = L.replied t (far p);
+        stage = Answers (L.answer t (far p));
+        given = Some (far p);
+        delivered = w.delivered ++ p ∷ [];
+      }
 
   -- a frame arrives at the answering end
   abbrev pub arrives : (List ℕ → List ℕ) → World I T F → F → World I T F
-  arrives far w f = answering_does far (record w { arrived = w.arrived ++ f ∷ [] }) (L.heard w.answering f) (L.does w.answering f)
+  arrives far w f = answering_does far (record w { arrived = w.arrived ++ f ∷ [] }) (L.heard w.answering f)
+      (L.does w.answering f)
 
   -- the field is lost
   abbrev pub darkened : World I T F → World I T F
@@ -141,10 +147,12 @@ IsEnding Ready w (Requests f) = Unit {0}
 IsEnding Ready w (Answers a) = Unit {0}
 IsEnding Ready w Dark = Unit {0}
 
--- The law of an exchange of one payload, which goes out in so many pieces and whose reply comes back in `back` pieces, at
--- any moment of it: behind the payloads before, this one was delivered at most once; it was exactly where something was
--- given, and that keeps Gave; what was delivered is what the frames that arrived bring; and the transmissions are few.
-pub record Once {I T F : Type 0} (L : StopAndWait I T F) (Ready : World I T F → Type 0) (Gave : Option (List ℕ) → Type 0) (before : List (List ℕ)) (payload : List ℕ)
+-- The law of an exchange of one payload, which goes out in so many pieces and whose reply comes back in `back` pieces,
+-- at any moment of it: behind the payloads before, this one was delivered at most once; it was exactly where something
+-- was given, and that keeps Gave; what was delivered is what the frames that arrived bring; and the transmissions are
+-- few.
+pub record Once {I T F : Type 0} (L : StopAndWait I T F) (Ready : World I T F → Type 0)
+    (Gave : Option (List ℕ) → Type 0) (before : List (List ℕ)) (payload : List ℕ)
     (out : ℕ) (back : List ℕ → ℕ) (w : World I T F) : Type 0 where
   pub once : w.delivered ≡ before ++ delivered_of payload w.given
   pub reply : Gave w.given

@@ -1,6 +1,7 @@
--- What contracts see of a link to one tag, and what one command on it does (NFC Forum Type 2, Type 3, Type 4 and Type 5 Tag). The
--- counts and causes are this project's own.
-use Rattle.std.specs.Prelude.{◌≡◌, ℕ, ◌<◌, ◌≤◌, ◌⊎◌, List, [], ◌∷◌, ◌++◌, length, reverse, Bool, true, false, Option, Some, None, Result, Err}
+-- What contracts see of a link to one tag, and what one command on it does (NFC Forum Type 2, Type 3, Type 4 and Type 5
+-- Tag). The counts and causes are this project's own.
+use Rattle.std.specs.Prelude.{◌≡◌, ℕ, ◌<◌, ◌≤◌, ◌⊎◌, List, [], ◌∷◌, ◌++◌, length, reverse, Bool, true, false, Option}
+use Rattle.std.specs.Prelude.{Some, None, Result, Err}
 use Rattle.std.specs.List.{AllByRecursion}
 use Rattle.nfc_base.specs.declared.frame.Tech.{Tech}
 use Rattle.nfc_base.specs.declared.frame.Tech.TheVariants.{A, V, F}
@@ -62,8 +63,8 @@ pub record LinkView : Type 0 where
 abbrev pub address_flags : ℕ
 address_flags = 0x22
 
--- a request of NFC-V to the device of this identifier, high byte first: its flags, a code, the identifier low byte first,
--- and what the code needs (ISO/IEC 15693-3)
+-- a request of NFC-V to the device of this identifier, high byte first: its flags, a code, the identifier low byte
+-- first, and what the code needs (ISO/IEC 15693-3)
 abbrev pub addressed : List ℕ → ℕ → List ℕ → Signal
 addressed identifier code rest = whole_v (address_flags ∷ code ∷ (reverse identifier ++ rest))
 
@@ -72,8 +73,8 @@ pub record IsAddressed (identifier : List ℕ) (c : Signal) : Type 0 where
   pub rest : List ℕ
   pub frame : c ≡ addressed identifier code rest
 
--- a request of NFC-F to the device of this identifier: how many bytes it has, itself included, a code, the identifier in
--- order, and what the code needs (JIS X 6319-4)
+-- a request of NFC-F to the device of this identifier: how many bytes it has, itself included, a code, the identifier
+-- in order, and what the code needs (JIS X 6319-4)
 abbrev pub addressed_f : List ℕ → ℕ → ℕ → List ℕ → Signal
 addressed_f identifier size code rest = whole_f (size ∷ code ∷ (identifier ++ rest))
 
@@ -83,8 +84,8 @@ pub record IsAddressedF (identifier : List ℕ) (c : Signal) : Type 0 where
   pub rest : List ℕ
   pub frame : c ≡ addressed_f identifier size code rest
 
--- What a technology addresses to the device of one identifier: in NFC-A nothing, in NFC-V and NFC-F what is addressed to
--- its eight bytes. A further technology is a case more.
+-- What a technology addresses to the device of one identifier: in NFC-A nothing, in NFC-V and NFC-F what is addressed
+-- to its eight bytes. A further technology is a case more.
 abbrev pub IsNamedIn : Tech → List ℕ → Type 0
 IsNamedIn A identifier = Unit {0}
 IsNamedIn V identifier = length identifier ≡ 8
@@ -112,8 +113,9 @@ abbrev pub passed : (TagState → Signal → TagStep) → TagState → List Sign
 passed step s [] = []
 passed step s (c ∷ cs) = (step s c).after.store ∷ passed step (step s c).after cs
 
--- Calls led from one view of a link to another, and the tag obeyed `more` in them. A link that is over stays over by its
--- fault, and nothing is obeyed on it. What a Type 4 tag has selected isn't said of a link that is over: the dark clears it.
+-- Calls led from one view of a link to another, and the tag obeyed `more` in them. A link that is over stays over by
+-- its fault, and nothing is obeyed on it. What a Type 4 tag has selected isn't said of a link that is over: the dark
+-- clears it.
 pub record Leads (a b : LinkView) (more : List Signal) : Type 0 where
   pub kind : b.kind ≡ a.kind
   pub identifier : b.identifier ≡ a.identifier
@@ -127,8 +129,8 @@ pub record Leads (a b : LinkView) (more : List Signal) : Type 0 where
 abbrev pub images : LinkView → List Signal → List (List ℕ)
 images a more = a.state.store ∷ passed a.step a.state more
 
--- Stores one after another: first such of one kind, then of a second, then of a third. The three say what a tag of some kind
--- reads as, before, during and behind a write.
+-- Stores one after another: first such of one kind, then of a second, then of a third. The three say what a tag of some
+-- kind reads as, before, during and behind a write.
 pub record PassInThree (Old Empty New : List ℕ → Type 0) (images : List (List ℕ)) : Type 0 where
   pub before : List (List ℕ)
   pub during : List (List ℕ)

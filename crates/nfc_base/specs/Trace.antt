@@ -66,8 +66,8 @@ heard_by x b = by_fate x (heard_back b) (Some Silent) None
 abbrev pub heard : Turn → Option Heard
 heard t = heard_by t.fate t.back
 
--- What was heard of a turn, sorted: a whole frame, the first bits of a clash, damage, silence, or a loss of the field. What is
--- told by what was heard of turns stands on this table.
+-- What was heard of a turn, sorted: a whole frame, the first bits of a clash, damage, silence, or a loss of the field.
+-- What is told by what was heard of turns stands on this table.
 abbrev pub by_heard : {X : Type 0} → Option Heard → (Signal → X) → (Signal → X) → X → X → X → X
 by_heard (Some (Whole g)) whole clash damage silence lost = whole g
 by_heard (Some (Collided g)) whole clash damage silence lost = clash g

@@ -1,8 +1,10 @@
 //! The link that carries payloads to a far end.
 
-ghost use Rattle.std.specs.Prelude.{◌≡◌, ℕ, ◌≤◌, List, [], ◌∷◌, length, vec_len, IfOk, IfErr, Option, Some, None, Err, false};
+ghost use Rattle.std.specs.Prelude.{◌≡◌, ℕ, ◌≤◌, List, [], ◌∷◌, length, vec_len, IfOk, IfErr, Option, Some, None, Err};
+ghost use Rattle.std.specs.Prelude.{false};
 ghost use Rattle.std.specs.Borrow.{GName};
-ghost use Rattle.nfc_base.specs.Links.{CarrierView, SwapDone, SwapFailed, SwapRefused, FarStep, Stepped, Swapped, AskedBy, IsMemory};
+ghost use Rattle.nfc_base.specs.Links.{CarrierView, SwapDone, SwapFailed, SwapRefused, FarStep, Stepped, Swapped};
+ghost use Rattle.nfc_base.specs.Links.{AskedBy, IsMemory};
 ghost use Rattle.nfc_base.specs.Numbers.{end_cause_number};
 ghost use Rattle.nfc_base.specs.declared.carrier.EndCause.{EndCause};
 

@@ -1,8 +1,8 @@
 //! What every layer of the stack speaks of: frames and their bits, what happens on the air and what a reader hears
 //! of it, the far end above a link, the link that carries payloads to it, and the link to a tag.
 //!
-//! `frame` and `event` are values; `far`, `carrier` and `tag_link` are traits whose meanings and laws the layers above rely on;
-//! `items` is the one list type that public types use; `locks` is a tag's table of locked blocks.
+//! `frame` and `event` are values; `far`, `carrier` and `tag_link` are traits whose meanings and laws the layers above
+//! rely on; `items` is the one list type that public types use; `locks` is a tag's table of locked blocks.
 #![tactic(auto)]
 
 mod carrier;

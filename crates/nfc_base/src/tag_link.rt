@@ -46,8 +46,8 @@ pub trait TagLink {
     /// What `ask` needs of what it borrows; it stands again after each call.
     ghost ready: { Self → Type 0 };
 
-    /// What may happen to what it borrows in calls of `ask`. Here a link says by which receptions each fault comes, since
-    /// its counts are its own.
+    /// What may happen to what it borrows in calls of `ask`. Here a link says by which receptions each fault comes,
+    /// since its counts are its own.
     ghost moves: { Self → Self → Type 0 };
 
     /// Asks the tag: the answer of its step, once it came through whole.

@@ -1,5 +1,6 @@
 -- Reading an input to be audited.
-use Rattle.std.proofs.Common.{◌≡◌, ◌≢◌, ℕ, suc, zero, ◌+◌, ◌<◌, ◌≤◌, List, [], ◌∷◌, ◌++◌, length, take, drop, Bool, true, false, Option, Some, None, Result, Ok, Err, refl, sym, ◌∙◌, ap, subst, append_assoc, arith, inl, inr}
+use Rattle.std.proofs.Common.{◌≡◌, ◌≢◌, ℕ, suc, zero, ◌+◌, ◌<◌, ◌≤◌, List, [], ◌∷◌, ◌++◌, length, take, drop, Bool, true, false, Option, Some, None, Result, Ok, Err, refl, sym, ◌∙◌, ap, subst}
+use Rattle.std.proofs.Common.{append_assoc, arith, inl, inr}
 use Rattle.std.specs.Prelude.{IfSome}
 use Rattle.std.specs.List.{All, AllByRecursion}
 use Rattle.std.proofs.lemmas.Bool.{cases_Bool}
@@ -260,7 +261,8 @@ input_reports left mid left' reader script count (NoReport n) has (rest, over, l
     let all : HasGivenAll (has.lines ++ mark ∷ []) left left' rest = gives_all (has.lines ++ mark ∷ []) left mid left' reader most_report rest has.gave over in
     let by : GoesOnBy left all.bytes false = goes_on_by left left' all.bytes false all.read (λ no. absurd cc) in
     let report : List ℕ = bytes_of rest ++ by.more in
-    let it : HasReport (all.bytes ++ by.more) has.lines report = reports_all all.bytes has.lines (bytes_of rest) by.more has.are.clean all.spelled (λ none. absurd (omega (arith, long, ap length none))) in
+    let it : HasReport (all.bytes ++ by.more) has.lines report = reports_all all.bytes has.lines (bytes_of rest) by.more has.are.clean all.spelled
+    (λ none. absurd (omega (arith, long, ap length none))) in
     let front : take most_report report ≡ take most_report (bytes_of rest) = take-append-le most_report (bytes_of rest) by.more (omega (arith, long)) in
     record {
       input = all.bytes ++ by.more;
@@ -269,5 +271,11 @@ input_reports left mid left' reader script count (NoReport n) has (rest, over, l
       cut = lines_again has.lines script count has.are;
       limits = has.are.limits;
       none = has.are.none;
-      stands = inr (report, it, omega (arith, long, length-append (bytes_of rest) by.more), number ∙ ap (λ k. k + 2 + ends_in (take most_report (bytes_of rest))) has.are.number ∙ ap (λ x. length has.lines + 2 + ends_in x) (sym front));
+      stands = inr (
+        report,
+        it,
+        omega (arith, long, length-append (bytes_of rest) by.more),
+        number ∙ ap (λ k. k + 2 + ends_in (take most_report (bytes_of rest))) has.are.number
+            ∙ ap (λ x. length has.lines + 2 + ends_in x) (sym front),
+      );
     }

@@ -38,7 +38,8 @@ use Rattle.bench_world.proofs.lines.OneJournal.{same_answers, same_state}
 use Rattle.bench_world.proofs.devices.Reached.{first_ready, ready_behind}
 use Rattle.bench_world.proofs.calm.WriteBehind.{Done, tag_behind}
 use Rattle.nfc_bench.specs.Run.{IsFates, HaveNoFates, IsRunOf, AreRuns}
-use Rattle.nfc_bench.specs.Sweep.{sweep_lines, break_lines, read_line, last_entry, all_transmissions, told_in, told_if, told_by_run, message_told, message_written, written_if, written_in, first_told, is_neither}
+use Rattle.nfc_bench.specs.Sweep.{sweep_lines, break_lines, read_line, last_entry, all_transmissions, told_in, told_if, told_by_run, message_told, message_written, written_if, written_in, first_told}
+use Rattle.nfc_bench.specs.Sweep.{is_neither}
 use Rattle.nfc_bench.specs.SweptReads.{HeldBehind, TellsThree, SweptIsRead, NeitherIsEmpty}
 use Rattle.nfc_bench.proofs.Journals.{asks_something}
 use Rattle.nfc_bench.proofs.WrittenTag.{named_so, written_placed}
@@ -106,7 +107,8 @@ run_parted a b lines js is run =
     }
 
 -- The same lines lead to one state.
-one_state : (ls : List NumberedLine) (s t u : State) (gs hs : List Given) (js ks : List Entry) → AreEntriesOf ls js → AreEntriesOf ls ks → NoneJoined gs → NoneJoined hs → EachLegal s gs js t → EachLegal s hs ks u → t ≡ u
+one_state : (ls : List NumberedLine) (s t u : State) (gs hs : List Given) (js ks : List Entry) → AreEntriesOf ls js → AreEntriesOf ls ks → NoneJoined gs → NoneJoined hs → EachLegal s gs js t
+    → EachLegal s hs ks u → t ≡ u
 one_state [] s t u [] [] [] [] a b n m p q = p ∙ sym q
 one_state [] s t u gs hs (j ∷ js) ks a b n m p q = absurd a
 one_state [] s t u gs hs [] (k ∷ ks) a b n m p q = absurd b
@@ -141,7 +143,8 @@ calm_step s t g e step other calm = (
   ap (λ (x : State). x.world.numbers) step.front.after,
 )
 
-calm_behind : (ls : List NumberedLine) (s t : State) (gs : List Given) (js : List Entry) → AllByRecursion (λ (l : NumberedLine). IsFates l.text → ⊥) ls → AreEntriesOf ls js → IsCalm s → EachLegal s gs js t → IsCalm t
+calm_behind : (ls : List NumberedLine) (s t : State) (gs : List Given) (js : List Entry) → AllByRecursion (λ (l : NumberedLine). IsFates l.text → ⊥) ls → AreEntriesOf ls js → IsCalm s
+    → EachLegal s gs js t → IsCalm t
 calm_behind ls s t [] [] all of calm steps = subst IsCalm (sym steps) calm
 calm_behind ls s t (g ∷ gs) [] all of calm steps = absurd steps
 calm_behind ls s t [] (e ∷ js) all of calm steps = absurd steps
@@ -349,7 +352,8 @@ module _ (lines : List (List ℕ)) (runs : List (List Entry)) (r : AreRuns lines
 
   named : IsNamed id placed.0
   unfolding here
-  named = named_so r.script.last id m r.script.spelled here.world.field.listeners placed.0 placed.1 (ready_behind (asking_lines 1 r.script.before) first_state here whole.steps.ones whole.entries.es first_ready whole.entries.first whole.steps.first) done.is_one
+  named = named_so r.script.last id m r.script.spelled here.world.field.listeners placed.0 placed.1
+      (ready_behind (asking_lines 1 r.script.before) first_state here whole.steps.ones whole.entries.es first_ready whole.entries.first whole.steps.first) done.is_one
 
   held : (old : List ℕ) × IsStoreForm (how_of placed.0) (size_of placed.0) (device_store placed.0) (Message old)
   held = held_there (how_of placed.0) (size_of placed.0) (device_store placed.0) (message_of m) done.shows.place done.shows.takes.holds

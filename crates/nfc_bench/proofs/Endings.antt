@@ -127,7 +127,8 @@ front_with left left' done m j new n o limits number next few line =
         rest = lines_of (m.held ++ by.more);
         parts = next.lines by.more by.follows ∙ sym (append_assoc done (m.line ∷ []) (lines_of (m.held ++ by.more)));
         obeyed = (obeyed_more done j new m.line n o line number).obeyed;
-        stops = stops_none (done ++ m.line ∷ []) (lines_of (m.held ++ by.more)) new (obeyed_more done j new m.line n o line number).obeyed.run.legal.last (obeyed_more done j new m.line n o line number);
+        stops = stops_none (done ++ m.line ∷ []) (lines_of (m.held ++ by.more)) new (obeyed_more done j new m.line n o line number).obeyed.run.legal.last
+            (obeyed_more done j new m.line n o line number);
       };
       limits = limits_more done m.line limits (omega (arith, number, few)) next.short;
     }
@@ -152,7 +153,8 @@ front_without left left' done m j new o limits next lost =
     }
 
 cut_line : (quiet : Bool) (left left' : Option (List ℕ)) (done : List (List ℕ)) (m : Lined) (j new : Benched) (n : ℕ) (t t1 t2 : Option (List ℕ)) (w w1 w2 : ℕ)
-    → ObeyedBy done j → AreWithinLimits done → n ≡ 1 + length done → t1 ≡ with_end t (report_text quiet j.journal) → GaveNext left left' done m → n ≤ most_lines → w ≤ w1 → LineCut quiet j new n m.line t1 t2 w1 w2
+    → ObeyedBy done j → AreWithinLimits done → n ≡ 1 + length done → t1 ≡ with_end t (report_text quiet j.journal) → GaveNext left left' done m → n ≤ most_lines → w ≤ w1
+    → LineCut quiet j new n m.line t1 t2 w1 w2
     → EndsUnwritten quiet left t t2 w w2 new
 cut_line quiet left left' done m j new n t t1 t2 w w1 w2 o limits number written next few count s =
     let G : Option (List ℕ) → Type 0 = λ x. GainsFront x t2 (entry_text quiet s.entry) in
@@ -174,11 +176,14 @@ lost_line quiet left left' done m j new t t1 t2 o limits written next s = record
 
 -- a line that was tried ended the run
 pub line_stops : (quiet : Bool) (left left' : Option (List ℕ)) (done : List (List ℕ)) (m : Lined) (j new : Benched) (n : ℕ) (t t1 t2 : Option (List ℕ)) (r r' w w1 w2 : ℕ) (stop : Stop)
-    → ObeyedBy done j → AreWithinLimits done → n ≡ 1 + length done → t1 ≡ with_end t (report_text quiet j.journal) → GaveNext left left' done m → n ≤ most_lines → w ≤ w1 → LineStops quiet j new n m.line t1 t2 w1 w2 stop
+    → ObeyedBy done j → AreWithinLimits done → n ≡ 1 + length done → t1 ≡ with_end t (report_text quiet j.journal) → GaveNext left left' done m → n ≤ most_lines → w ≤ w1
+    → LineStops quiet j new n m.line t1 t2 w1 w2 stop
     → RunStops quiet left left' t t2 r r' w w2 new stop
-line_stops quiet left left' done m j new n t t1 t2 r r' w w1 w2 (Refused k) o limits number written next few count s = refused_line quiet left left' done m j new n k t t1 t2 o limits number written next s
+line_stops quiet left left' done m j new n t t1 t2 r r' w w1 w2 (Refused k) o limits number written next few count s =
+    refused_line quiet left left' done m j new n k t t1 t2 o limits number written next s
 line_stops quiet left left' done m j new n t t1 t2 r r' w w1 w2 ReadFault o limits number written next few count s = absurd s
-line_stops quiet left left' done m j new n t t1 t2 r r' w w1 w2 WriteFault o limits number written next few count s = cut_line quiet left left' done m j new n t t1 t2 w w1 w2 o limits number written next few count s
+line_stops quiet left left' done m j new n t t1 t2 r r' w w1 w2 WriteFault o limits number written next few count s =
+    cut_line quiet left left' done m j new n t t1 t2 w w1 w2 o limits number written next few count s
 line_stops quiet left left' done m j new n t t1 t2 r r' w w1 w2 Memory o limits number written next few count s = lost_line quiet left left' done m j new t t1 t2 o limits written next s
 
 -- memory was wanting before a line was obeyed

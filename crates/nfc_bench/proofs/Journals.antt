@@ -60,7 +60,8 @@ follows_skipped old new n l skipped sound same =
     )
 
 -- any other by its entry
-pub follows_entry : (old new : Benched) (n : ℕ) (l : List ℕ) (c : Command) → is_skipped l ≡ false → Spells l c → (adds : Adds old new n c) → (follows : Follows old new n l) × (follows.entries ≡ adds.entry ∷ [])
+pub follows_entry : (old new : Benched) (n : ℕ) (l : List ℕ) (c : Command) → is_skipped l ≡ false → Spells l c → (adds : Adds old new n c)
+    → (follows : Follows old new n l) × (follows.entries ≡ adds.entry ∷ [])
 follows_entry old new n l c asks spelled adds =
     let S : Command → Type 0 = λ x. Spells l x in
     let A : List NumberedLine → Type 0 = λ x. AreEntriesOf x (adds.entry ∷ []) in (
@@ -69,7 +70,8 @@ follows_entry old new n l c asks spelled adds =
         given = adds.given ∷ [];
         most = (adds.joined, tt);
         added = ap (λ (b : Benched). b.journal) adds.is;
-        numbered = subst A (sym (ap (λ v. if v then asking_lines (n + 1) [] else record { number = n; text = l } ∷ asking_lines (n + 1) []) asks)) (adds.numbered, subst S (sym adds.asked) spelled, tt);
+        numbered = subst A (sym (ap (λ v. if v then asking_lines (n + 1) [] else record { number = n; text = l } ∷ asking_lines (n + 1) []) asks))
+            (adds.numbered, subst S (sym adds.asked) spelled, tt);
         steps = (adds.state, adds.legal, ap (λ (b : Benched). b.state) adds.is);
         sound = ap (λ (b : Benched). b.spoiled) adds.is ∙ adds.sound;
         uncut = ap (λ (b : Benched). b.cut) adds.is;

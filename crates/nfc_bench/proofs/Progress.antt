@@ -103,7 +103,8 @@ stops_none lines rest b last o = record { sound = λ _. o.uncut; spoiled = λ is
 -- one more line is obeyed
 pub obeyed_more : (ls : List (List ℕ)) (old new : Benched) (l : List ℕ) (n : ℕ) → ObeyedBy ls old → Follows old new n l → n ≡ 1 + length ls → ObeyedBy (ls ++ l ∷ []) new
 obeyed_more ls old new l n obeyed follows at =
-    obeyed_by (ls ++ l ∷ []) (obeyed.obeyed.run.legal.numbers ++ map (λ (g : Given). g.joins) follows.given) new (legal_more ls obeyed.obeyed.run.legal.numbers old new l n (leads_to ls old obeyed) follows at)
+    obeyed_by (ls ++ l ∷ []) (obeyed.obeyed.run.legal.numbers ++ map (λ (g : Given). g.joins) follows.given) new
+    (legal_more ls obeyed.obeyed.run.legal.numbers old new l n (leads_to ls old obeyed) follows at)
     (all_append (λ j. j ≡ no_joins) obeyed.obeyed.run.legal.numbers (map (λ (g : Given). g.joins) follows.given) obeyed.obeyed.run.most (most_given follows.given follows.most)) follows.sound
     (follows.uncut ∙ obeyed.uncut)
 
@@ -261,7 +262,8 @@ gave_next left mid left' a m done p few adv =
     }
 
 -- it is one of the lines that were given
-pub read_more : (left left' : Option (List ℕ)) (m : Lined) (done : List (List ℕ)) → AreWithinLimits done → GaveNext left left' done m → length done < most_lines → HasRead left left' m (done ++ m.line ∷ [])
+pub read_more : (left left' : Option (List ℕ)) (m : Lined) (done : List (List ℕ)) → AreWithinLimits done → GaveNext left left' done m → length done < most_lines
+    → HasRead left left' m (done ++ m.line ∷ [])
 read_more left left' m done limits next few = record {
   text = next.text;
   read = next.read;

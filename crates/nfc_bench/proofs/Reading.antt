@@ -1,5 +1,6 @@
 -- How reading the lines of a script ends, whatever is done with them.
-use Rattle.std.proofs.Common.{◌≡◌, ℕ, ◌+◌, ◌<◌, ◌≤◌, ◌⊎◌, List, [], ◌∷◌, ◌++◌, length, take, drop, Bool, true, false, Option, Some, None, Result, Ok, Err, refl, sym, ◌∙◌, ap, subst, append_assoc, arith, inl, inr}
+use Rattle.std.proofs.Common.{◌≡◌, ℕ, ◌+◌, ◌<◌, ◌≤◌, ◌⊎◌, List, [], ◌∷◌, ◌++◌, length, take, drop, Bool, true, false, Option, Some, None, Result, Ok, Err, refl, sym, ◌∙◌, ap, subst, append_assoc}
+use Rattle.std.proofs.Common.{arith, inl, inr}
 use Rattle.std.specs.Prelude.{IfSome}
 use Rattle.std.proofs.lemmas.Bool.{cases_Bool}
 use Rattle.std.proofs.lemmas.List.{append-nil, length-take-le, take-append-drop}
@@ -78,7 +79,8 @@ goes_looking a b mid left' r l = record {
 }
 
 -- it is one too many
-pub beyond_number : (left mid left' : Option (List ℕ)) (a m : Lined) (done : List (List ℕ)) → HasRead left mid a done → most_lines < 1 + length done → Looks a m mid left' (Ok true) → ReadsToLimit left done
+pub beyond_number : (left mid left' : Option (List ℕ)) (a m : Lined) (done : List (List ℕ)) → HasRead left mid a done → most_lines < 1 + length done → Looks a m mid left' (Ok true)
+    → ReadsToLimit left done
 beyond_number left mid left' a m done p many look =
     beyond_limit left mid left' a done look.got [] (a.held ++ look.got) p (goes_looking a m mid left' (Ok true) look)
     look.found.0 refl (λ k small. absurd (omega arith)) (inl many)

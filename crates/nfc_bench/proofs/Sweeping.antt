@@ -1,5 +1,6 @@
 -- How a sweep goes on, by how its parts did.
-use Rattle.std.proofs.Common.{◌≡◌, ℕ, zero, suc, ◌+◌, ◌-◌, ◌<◌, ◌≤◌, ◌⊎◌, List, [], ◌∷◌, ◌++◌, length, get_or, take, drop, Bool, true, false, Option, Some, None, refl, sym, ◌∙◌, ap, subst, append_assoc, arith, inl, inr}
+use Rattle.std.proofs.Common.{◌≡◌, ℕ, zero, suc, ◌+◌, ◌-◌, ◌<◌, ◌≤◌, ◌⊎◌, List, [], ◌∷◌, ◌++◌, length, get_or, take, drop, Bool, true, false, Option, Some, None, refl, sym, ◌∙◌, ap, subst}
+use Rattle.std.proofs.Common.{append_assoc, arith, inl, inr}
 use Rattle.std.specs.Prelude.{IfSome}
 use Rattle.std.specs.List.{All}
 use Rattle.std.proofs.Math.Seq.{drop-cons, get_or-append_seam}
@@ -20,10 +21,12 @@ use Rattle.bench_world.proofs.devices.Shapes.{taken_at}
 use Rattle.nfc_bench.specs.declared.top.sweeping.Cut.{Cut}
 use Rattle.nfc_bench.specs.declared.top.sweeping.Cut.TheVariants.{Refused, ReadFault, Memory}
 use Rattle.nfc_bench.specs.Reading.{Scripted, AreLinesOf, ReadsScript}
-use Rattle.nfc_bench.specs.Run.{IsFates, IsWrite, HaveNoFates, IsSwept, IsRunOf, FirstAreObeyed, ObeysFront, AreRuns, HasSwept, HasSweptSome, FirstUnswept, LastUnwritten, IsUnwritten, Unsweeps, SweepsSome, MaySweep, StopsAt}
+use Rattle.nfc_bench.specs.Run.{IsFates, IsWrite, HaveNoFates, IsSwept, IsRunOf, FirstAreObeyed, ObeysFront, AreRuns, HasSwept, HasSweptSome, FirstUnswept, LastUnwritten, IsUnwritten, Unsweeps}
+use Rattle.nfc_bench.specs.Run.{SweepsSome, MaySweep, StopsAt}
 use Rattle.nfc_bench.specs.Stops.{FirstUntaken, ObeyedBy}
 use Rattle.nfc_bench.specs.Sweep.{Swept, sweep_lines, read_line, all_transmissions}
-use Rattle.nfc_bench.specs.SweepStops.{is_fates, is_write, Stands, MayStand, MayNotStand, StandsTo, ObeysSwept, FirstWithin, ScriptStops, BeginsSweep, AreSweptLines, HasBroken, HasBrokenAll, HasBrokenSome, SweepStops, SweepRefused}
+use Rattle.nfc_bench.specs.SweepStops.{is_fates, is_write, Stands, MayStand, MayNotStand, StandsTo, ObeysSwept, FirstWithin, ScriptStops, BeginsSweep, AreSweptLines, HasBroken, HasBrokenAll}
+use Rattle.nfc_bench.specs.SweepStops.{HasBrokenSome, SweepStops, SweepRefused}
 use Rattle.nfc_bench.proofs.Limits.{all_at, IsShort, no_limits}
 use Rattle.nfc_bench.proofs.Endings.{done_taken, none_obeyed}
 use Rattle.nfc_bench.proofs.Progress.{stops_none}
@@ -111,7 +114,8 @@ pub parted_last : (lines : List (List ℕ)) (n : ℕ) → length lines ≡ n + 1
 parted_last lines n size = sym (take_all (n + 1) lines (omega (arith, size))) ∙ take_more lines n [] (omega (arith, size))
 
 -- The runs of the sweep of a bench that obeyed its script.
-abbrev pub swept_script : (s : Scripted) (b : Benched) (l : Swept) → ObeysSwept s b → AreSweptLines s.lines l → (m : IsSwept s.lines) × (m.before ≡ l.before) × (m.last ≡ l.last) × (read_line m.id ≡ l.read)
+abbrev pub swept_script : (s : Scripted) (b : Benched) (l : Swept) → ObeysSwept s b → AreSweptLines s.lines l
+    → (m : IsSwept s.lines) × (m.before ≡ l.before) × (m.last ≡ l.last) × (read_line m.id ≡ l.read)
 swept_script s b l o a = (
   record {
     before = l.before;
@@ -336,7 +340,8 @@ may_not_unswept s lines n b a st o less =
     behind_none size whole = ap (λ x. x ++ (tail_of s lines a).tail) (drop_past (suc n) s.lines (omega (arith, size))) ∙ (tail_of s lines a).none whole
 
 -- All lines that were read were obeyed, but the next is too many or too long.
-cut_unswept : (s : Scripted) (lines : List (List ℕ)) (n : ℕ) (b : Benched) → AreLinesOf s lines → StandsTo s n → ObeyedBy (take n s.lines) b → n ≡ length s.lines → s.is_cut ≡ true → FirstUnswept lines b (n + 1)
+cut_unswept : (s : Scripted) (lines : List (List ℕ)) (n : ℕ) (b : Benched) → AreLinesOf s lines → StandsTo s n → ObeyedBy (take n s.lines) b → n ≡ length s.lines → s.is_cut ≡ true
+    → FirstUnswept lines b (n + 1)
 cut_unswept s lines n b a st o size is =
     let all : take n s.lines ≡ s.lines = take_all n s.lines (omega (arith, size)) in
     let c = a.cut is in
@@ -391,7 +396,8 @@ pub read_told : (left left' : Option (List ℕ)) (s : Scripted) → (r : ReadsSc
 read_told left left' s r = told_input left left' r.input s.is_cut r.told
 
 -- why the first run stopped is why the sweep did
-pub script_stops : (left left' : Option (List ℕ)) (s : Scripted) (r r' : ℕ) (b : Benched) (cut : Cut) → (rs : ReadsScript left left' s) → b.finished ≡ [] → ScriptStops (lines_of rs.input) b cut → SweepStops left r r' b cut
+pub script_stops : (left left' : Option (List ℕ)) (s : Scripted) (r r' : ℕ) (b : Benched) (cut : Cut) → (rs : ReadsScript left left' s) → b.finished ≡ [] → ScriptStops (lines_of rs.input) b cut
+    → SweepStops left r r' b cut
 script_stops left left' s r r' b (Refused n) rs runs stops = record {
   input = rs.input;
   told = read_told left left' s rs;
@@ -406,7 +412,8 @@ pub whole_lines_are : (left left' : Option (List ℕ)) (s : Scripted) → s.is_c
 whole_lines_are left left' s whole rs = rs.lines.whole whole
 
 -- the last answer isn't `written`
-pub unwritten_stops : (left left' : Option (List ℕ)) (s : Scripted) (b : Benched) → ReadsScript left left' s → ObeysSwept s b → b.finished ≡ [] → IsUnwritten b.journal → SweepRefused left b (length s.lines)
+pub unwritten_stops : (left left' : Option (List ℕ)) (s : Scripted) (b : Benched) → ReadsScript left left' s → ObeysSwept s b → b.finished ≡ [] → IsUnwritten b.journal
+    → SweepRefused left b (length s.lines)
 unwritten_stops left left' s b rs o runs unwritten =
     let size : length s.lines ≡ (length s.lines - 1) + 1 = (let some : 0 < length s.lines = o.some in omega (arith, some)) in
     let last : List ℕ = get_or s.lines (length s.lines - 1) [] in
@@ -491,7 +498,12 @@ not_unswept lines b n m f =
             | inl fates ↦ here fates
             | inr (none_behind, other_than) ↦ (
                 let parts : f.before ++ f.line ∷ [] ≡ m.script.before ++ m.script.last ∷ [] = ap (λ x. f.before ++ f.line ∷ x) (sym none_behind) ∙ sym f.parts ∙ m.script.parts in
-                other_than (m.script.id, m.script.message, subst (λ l. Spells l (Write m.script.id m.script.message)) (sym (last_same f.before m.script.before f.line m.script.last parts)) m.script.spelled))
+                other_than (
+                  m.script.id,
+                  m.script.message,
+                  subst (λ l. Spells l (Write m.script.id m.script.message)) (sym (last_same f.before m.script.before f.line m.script.last parts))
+                      m.script.spelled,
+                ))
           ])
     ]
 

@@ -1,5 +1,6 @@
 -- The lines of a sweep's runs are taken, each behind those before it, since those of its script are.
-use Rattle.std.proofs.Common.{◌≡◌, ◌≢◌, ℕ, zero, suc, ◌+◌, ◌-◌, ◌*◌, ◌/◌, ◌%◌, ◌<◌, ◌≤◌, List, [], ◌∷◌, ◌++◌, length, get_or, take, replicate, map, Bool, true, false, ◌==◌, refl, sym, ◌∙◌, ap, subst, append_assoc, arith}
+use Rattle.std.proofs.Common.{◌≡◌, ◌≢◌, ℕ, zero, suc, ◌+◌, ◌-◌, ◌*◌, ◌/◌, ◌%◌, ◌<◌, ◌≤◌, List, [], ◌∷◌, ◌++◌, length, get_or, take, replicate, map, Bool, true, false, ◌==◌, refl, sym, ◌∙◌, ap, subst}
+use Rattle.std.proofs.Common.{append_assoc, arith}
 use Rattle.std.specs.Prelude.{if◌then◌else◌, codes, slice_index_or}
 use Rattle.std.specs.List.{All, onto_first, join_with_byte}
 use Rattle.std.proofs.lemmas.List.{append-nil, length-append, length-replicate, get_or-replicate, get_or_append_left, get_or-append_right, map-append, replicate-append-replicate}
@@ -90,7 +91,8 @@ line_spelled : (n : ℕ) (rest : List Fate) → 0 < n + length rest → n + leng
 unfolding some_fates fates_line
 line_spelled n rest some few =
     let size : length (replicate n Pass ++ rest) ≡ n + length rest = length-append (replicate n Pass) rest ∙ ap (λ k. k + length rest) (length-replicate n Pass) in
-    let letters : map fate_letter (replicate n Pass ++ rest) ≡ replicate n 80 ++ map fate_letter rest = map-append fate_letter (replicate n Pass) rest ∙ ap (λ xs. xs ++ map fate_letter rest) (passing n) in
+    let letters : map fate_letter (replicate n Pass ++ rest) ≡ replicate n 80 ++ map fate_letter rest =
+    map-append fate_letter (replicate n Pass) rest ∙ ap (λ xs. xs ++ map fate_letter rest) (passing n) in
     subst (λ xs. Spells (codes "fates " ++ xs) (Fates (replicate n Pass ++ rest))) letters (fates_spelled (replicate n Pass ++ rest) (omega (arith, size)) (omega (arith, size)))
 
 -- Lines one after the other, of which the second part is accepted whatever stands before it.

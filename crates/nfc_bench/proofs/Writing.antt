@@ -14,7 +14,8 @@ split_so : (given held piece rest : List ℕ) → given ++ (held ++ (piece ++ re
 split_so given held piece rest = ap (λ x. given ++ x) (sym (append_assoc held piece rest)) ∙ sym (append_assoc given (held ++ piece) rest)
 
 -- one piece more
-pub piece_written : (text held piece rest held' : List ℕ) (t t1 t2 : Option (List ℕ)) → IsWritten text (held ++ (piece ++ rest)) t t1 → IsWritten (held ++ piece) held' t1 t2 → IsWritten text (held' ++ rest) t t2
+pub piece_written : (text held piece rest held' : List ℕ) (t t1 t2 : Option (List ℕ)) → IsWritten text (held ++ (piece ++ rest)) t t1 → IsWritten (held ++ piece) held' t1 t2
+    → IsWritten text (held' ++ rest) t t2
 piece_written text held piece rest held' t t1 t2 w p = record {
   given = w.given ++ p.given;
   parts = w.parts ∙ split_so w.given held piece rest ∙ ap (λ x. (w.given ++ x) ++ rest) p.parts

@@ -40,7 +40,8 @@ written_placed id m s t g e step writing written = by_found (device_with (bytes_
         let law : WritingLaw s g.joins id m g.asked e.events e.answer = subst L writing step.answered in
         subst (TagTells (TellsWrite (message_of m)) id s.world.field.listeners g.asked e.events) written law.tells
 
-    nobody : device_with (bytes_of id) s.world.field.listeners ≡ None → (r : Result SeenKind PollFault) (behind : List Note) → TagEnds (TellsWrite (message_of m)) id s.world.field.listeners g.asked r behind answers.Written → ⊥
+    nobody : device_with (bytes_of id) s.world.field.listeners ≡ None → (r : Result SeenKind PollFault) (behind : List Note)
+        → TagEnds (TellsWrite (message_of m)) id s.world.field.listeners g.asked r behind answers.Written → ⊥
     nobody none (Ok kind) behind ends =
         tells_either (λ a. OfPlaced (λ x. TellsWrite (message_of m) x a) (device_with (bytes_of id) s.world.field.listeners)) TellsFault answers.Written ⊥
         (λ t. subst (λ o. OfPlaced (λ x. TellsWrite (message_of m) x answers.Written) o) none t) (λ f is. absurd (written_failed f is)) kind g.asked behind ends
@@ -70,5 +71,6 @@ named_by word (V id) (T5 d) spelled same sound read = (refl, same)
 named_by word (V id) (T3 d) spelled same sound read = absurd cc
 named_by word (A id) (T3 d) spelled same sound read = absurd cc
 
-pub named_so : (line : List ℕ) (id : DeviceId) (m : Msg) → Spells line (Write id m) → (ds : List Device) (d : Device) → device_with (bytes_of id) ds ≡ Some d → IsReady ds → may_be_read d ≡ true → IsNamed id d
+pub named_so : (line : List ℕ) (id : DeviceId) (m : Msg) → Spells line (Write id m) → (ds : List Device) (d : Device) → device_with (bytes_of id) ds ≡ Some d → IsReady ds → may_be_read d ≡ true
+    → IsNamed id d
 named_so line id m spelled ds d placed ready read = named_by spelled.0 id d spelled.3 (found_named (bytes_of id) ds d placed) (with_sound ds (bytes_of id) d ready.tame.sound placed) read

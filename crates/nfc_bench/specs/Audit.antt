@@ -20,8 +20,8 @@ pub record IsAudited (input : List ℕ) : Type 0 where
   pub commands : List Command
   pub audited : AreAudited lines commands
 
--- Line n of an input isn't audited: it is the first of its script that isn't; or all of that are, and the input has no report that
--- may be audited, which line n is the first to show.
+-- Line n of an input isn't audited: it is the first of its script that isn't; or all of that are, and the input has no
+-- report that may be audited, which line n is the first to show.
 pub record IsUnaudited (input : List ℕ) (n : ℕ) : Type 0 where
   pub lines : List (List ℕ)
   pub script : IsScriptOf input lines
@@ -35,8 +35,8 @@ pub record ReadsAudited (left left' : Option (List ℕ)) : Type 0 where
   pub told : IfSome left (λ bytes. (input ≡ bytes) × (left' ≡ Some []))
   pub parts : IsAudited input
 
--- Status 0: the report is the text of a journal that the script may have, which the bench has now; that was written, and what was
--- accepted on each link.
+-- Status 0: the report is the text of a journal that the script may have, which the bench has now; that was written,
+-- and what was accepted on each link.
 pub record EndsLegal (left left' taken taken' : Option (List ℕ)) (b : Benched) : Type 0 where
   pub read : ReadsAudited left left'
   pub is : IsReportOf read.parts.lines read.parts.report b

@@ -13,8 +13,8 @@ mark = codes "%%"
 abbrev pub most_report : ℕ
 most_report = 16777216
 
--- How many bytes of an input are read: at most those of the longest script, of two lines more, of the longest report, and of one
--- call.
+-- How many bytes of an input are read: at most those of the longest script, of two lines more, of the longest report,
+-- and of one call.
 abbrev pub most_audited : ℕ
 most_audited = longest_script + 2 * (longest_line + 1) + most_report + chunk_size
 
@@ -22,7 +22,8 @@ most_audited = longest_script + 2 * (longest_line + 1) + most_report + chunk_siz
 abbrev pub HaveNoMark : List (List ℕ) → Type 0
 HaveNoMark lines = All (λ l. l ≢ mark) lines
 
--- The input has this report, behind these lines and the one that ends them; which may lack its LF where nothing stands behind it.
+-- The input has this report, behind these lines and the one that ends them; which may lack its LF where nothing stands
+-- behind it.
 pub record HasReport (input : List ℕ) (lines : List (List ℕ)) (report : List ℕ) : Type 0 where
   pub cut : lines_of input ≡ lines ++ mark ∷ lines_of report
   pub bytes : (input ≡ joined lines ++ (mark ++ 10 ∷ report)) ⊎ ((input ≡ joined lines ++ mark) × (report ≡ []))
@@ -53,9 +54,10 @@ ends_in bytes = count_by (λ b. b == 10) bytes
 abbrev pub passing_line : List (List ℕ) → List ℕ → ℕ
 passing_line lines report = length lines + 2 + ends_in (take most_report report)
 
--- Line n of the input is the first that shows that it has no report which may be audited: the one behind the script, or the
--- one in which the report is longer than it may be.
+-- Line n of the input is the first that shows that it has no report which may be audited: the one behind the script, or
+-- the one in which the report is longer than it may be.
 abbrev pub HasNone : List ℕ → List (List ℕ) → ℕ → Type 0
 HasNone input lines n =
     (LacksReport input lines × (n ≡ 1 + length lines))
-    ⊎ ((report : List ℕ) × HasReport input lines report × (most_report < length report) × (n ≡ passing_line lines report))
+    ⊎ ((report : List ℕ) × HasReport input lines report × (most_report < length report)
+    × (n ≡ passing_line lines report))

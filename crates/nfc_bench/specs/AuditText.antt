@@ -17,7 +17,8 @@ faulty_line n = codes "faulty line " ++ decimal n ++ codes "\n"
 abbrev pub legal_line : ℕ → List ℕ
 legal_line entries = codes "legal " ++ decimal entries ++ codes "\n"
 
--- the front of a line about a message that a peer accepted: the link, and the SAP that it came from, as an inbox tells them
+-- the front of a line about a message that a peer accepted: the link, and the SAP that it came from, as an inbox tells
+-- them
 abbrev pub accepted_head : ℕ → ℕ → List ℕ
 accepted_head link source = codes "accepted " ++ decimal link ++ source_text source ++ codes ":"
 
@@ -42,4 +43,5 @@ legal_text b = legal_line (length b.journal) ++ links_text b.state 1 (length b.s
 abbrev pub messages_text : ℕ → List (List ℕ) → List ℕ → List ℕ
 messages_text link [] sources = []
 messages_text link (m ∷ ms) [] = []
-messages_text link (m ∷ ms) (s ∷ ss) = accepted_line link (record { source = s; message = m }) ++ messages_text link ms ss
+messages_text link (m ∷ ms) (s ∷ ss) = accepted_line link (record { source = s; message = m })
+    ++ messages_text link ms ss

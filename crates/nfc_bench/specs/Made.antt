@@ -45,7 +45,8 @@ tally_of journal = record {
 -- the line that tells it
 abbrev pub tally_line : ℕ → ℕ → Tally → List ℕ
 tally_line seed count t =
-    codes "made " ++ decimal seed ++ codes " " ++ decimal count ++ codes " writes " ++ decimal t.writes ++ codes " reads " ++ decimal t.reads
+    codes "made " ++ decimal seed ++ codes " " ++ decimal count ++ codes " writes " ++ decimal t.writes
+    ++ codes " reads " ++ decimal t.reads
     ++ codes " puts " ++ decimal t.puts ++ codes " bytes " ++ decimal t.bytes ++ codes "\n"
 
 abbrev pub made_line : ℕ → ℕ → List Entry → List ℕ

@@ -1,5 +1,6 @@
 -- What reading a whole script comes to, before a line of it is obeyed. (Limits are this project's own.)
-use Rattle.std.specs.Prelude.{◌≡◌, ◌⊎◌, ℕ, ◌+◌, ◌<◌, List, [], ◌∷◌, ◌++◌, length, Bool, true, false, Option, Some, IfSome}
+use Rattle.std.specs.Prelude.{◌≡◌, ◌⊎◌, ℕ, ◌+◌, ◌<◌, List, [], ◌∷◌, ◌++◌, length, Bool, true, false, Option, Some}
+use Rattle.std.specs.Prelude.{IfSome}
 use Rattle.nfc_io.specs.Lines.{lines_of}
 use Rattle.bench_script.specs.Limits.{most_lines, longest_line, AreWithinLimits}
 

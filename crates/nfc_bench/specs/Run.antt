@@ -1,5 +1,6 @@
 -- What a run does, by its words and by the status that it ends with.
-use Rattle.std.specs.Prelude.{◌≡◌, ◌↔◌, ℕ, ◌+◌, ◌<◌, ◌≤◌, ◌⊎◌, List, [], ◌∷◌, ◌++◌, length, get_or, codes, Bool, true, false, Option, Some, IfSome}
+use Rattle.std.specs.Prelude.{◌≡◌, ◌↔◌, ℕ, ◌+◌, ◌<◌, ◌≤◌, ◌⊎◌, List, [], ◌∷◌, ◌++◌, length, get_or, codes, Bool, true}
+use Rattle.std.specs.Prelude.{false, Option, Some, IfSome}
 use Rattle.std.specs.Fmt.{decimal}
 use Rattle.std.specs.List.{All, AllByRecursion}
 use Rattle.nfc_io.specs.declared.source.Source as sources
@@ -45,7 +46,8 @@ FormOf words (Run false) = words ≡ codes "run" ∷ []
 FormOf words (Run true) = words ≡ codes "run" ∷ codes "quiet" ∷ []
 FormOf words Sweep = words ≡ codes "sweep" ∷ []
 FormOf words Audit = words ≡ codes "audit" ∷ []
-FormOf words (Make seed count) = (words ≡ codes "make" ∷ decimal seed ∷ decimal count ∷ []) × (seed ≤ most_seed) × IsCount count
+FormOf words (Make seed count) = (words ≡ codes "make" ∷ decimal seed ∷ decimal count ∷ []) × (seed ≤ most_seed)
+    × IsCount count
 
 -- What a run sees: its source, what that has left and the sink has taken, where they tell it, how often each failed,
 -- and the bench.
@@ -59,7 +61,14 @@ pub record Seen (S : Type 0) : Type 0 where
 
 abbrev pub sees : {S K : Type 0} → sources.Ghosts S → sinks.Ghosts K → S → K → Benched → Seen S
 sees s k source sink bench =
-    record { source = source; left = s.left source; taken = k.taken sink; reads = s.faults source; writes = k.faults sink; bench = bench }
+    record {
+      source = source;
+      left = s.left source;
+      taken = k.taken sink;
+      reads = s.faults source;
+      writes = k.faults sink;
+      bench = bench;
+    }
 
 -- the fault lines
 abbrev pub words_fault : List ℕ
@@ -74,22 +83,22 @@ read_fault = codes "fault 3 read\n"
 abbrev pub line_fault : ℕ → List ℕ
 line_fault n = codes "fault 2 line " ++ decimal n ++ codes "\n"
 
--- These entries are a run of these lines: a journal that is legal for them where both ends of a link join as many PDUs as
--- fit in each payload, no other one is by the same numbers of PDUs, and it keeps the law of links.
+-- These entries are a run of these lines: a journal that is legal for them where both ends of a link join as many PDUs
+-- as fit in each payload, no other one is by the same numbers of PDUs, and it keeps the law of links.
 pub record IsRunOf (lines : List (List ℕ)) (run : List Entry) : Type 0 where
   pub legal : Legal lines run
   pub most : AllByRecursion (λ j. j ≡ no_joins) legal.numbers
   pub only : (other : List Entry) (last : State) → LeadsTo lines legal.numbers other last → other ≡ run
   pub links : LinksAccept legal.numbers run
 
--- A bench obeyed these lines: its journal is a run of them. Unless want of memory spoiled the bench, its machines are in the
--- state that the journal leads to.
+-- A bench obeyed these lines: its journal is a run of them. Unless want of memory spoiled the bench, its machines are
+-- in the state that the journal leads to.
 pub record AreObeyed (lines : List (List ℕ)) (b : Benched) : Type 0 where
   pub run : IsRunOf lines b.journal
   pub machines : b.spoiled ≡ false → run.legal.last ≡ b.state
 
--- Want of memory cut off the command of the next line, in this state: nothing of it was done, or a front of its step, or the
--- peer's end stopped behind one; what tags hold is left as an unfinished command leaves it.
+-- Want of memory cut off the command of the next line, in this state: nothing of it was done, or a front of its step,
+-- or the peer's end stopped behind one; what tags hold is left as an unfinished command leaves it.
 pub record IsCutAt (rest : List (List ℕ)) (last : State) (b : Benched) : Type 0 where
   pub line : List ℕ
   pub after : List (List ℕ)
@@ -168,7 +177,8 @@ pub record ObeysFront (left : Option (List ℕ)) (b : Benched) : Type 0 where
 -- The sink gained the report and the fault line, or, where its count rose, the report and a front of that line.
 abbrev pub AddsFault : List ℕ → List ℕ → Option (List ℕ) → Option (List ℕ) → ℕ → ℕ → Type 0
 AddsFault report fault taken taken' writes writes' =
-    (taken' ≡ with_end taken (report ++ fault)) ⊎ (HasRisen writes writes' × GainsFront (with_end taken report) taken' fault)
+    (taken' ≡ with_end taken (report ++ fault)) ⊎ (HasRisen writes writes'
+    × GainsFront (with_end taken report) taken' fault)
 
 -- Status 0: every line was obeyed, and its entry written.
 pub record EndsDone (quiet : Bool) (left left' taken taken' : Option (List ℕ)) (b : Benched) : Type 0 where
@@ -176,19 +186,22 @@ pub record EndsDone (quiet : Bool) (left left' taken taken' : Option (List ℕ))
   pub written : taken' ≡ with_end taken (report_text quiet b.journal)
 
 -- Status 2: a line was the first that is refused.
-pub record EndsRefused (quiet : Bool) (left taken taken' : Option (List ℕ)) (writes writes' : ℕ) (b : Benched) : Type 0 where
+pub record EndsRefused (quiet : Bool) (left taken taken' : Option (List ℕ)) (writes writes' : ℕ) (b : Benched)
+    : Type 0 where
   pub number : ℕ
   pub lines : RefusesLine left b number
   pub written : AddsFault (report_text quiet b.journal) (line_fault number) taken taken' writes writes'
 
 -- Status 3: the source failed, behind some bytes.
-pub record EndsUnread (quiet : Bool) (left left' taken taken' : Option (List ℕ)) (reads reads' writes writes' : ℕ) (b : Benched) : Type 0 where
+pub record EndsUnread (quiet : Bool) (left left' taken taken' : Option (List ℕ)) (reads reads' writes writes' : ℕ)
+    (b : Benched) : Type 0 where
   pub risen : HasRisen reads reads'
   pub lines : ObeysWhole left left' b
   pub written : AddsFault (report_text quiet b.journal) read_fault taken taken' writes writes'
 
 -- Status 4: the sink failed, within the text of the last entry.
-pub record EndsUnwritten (quiet : Bool) (left taken taken' : Option (List ℕ)) (writes writes' : ℕ) (b : Benched) : Type 0 where
+pub record EndsUnwritten (quiet : Bool) (left taken taken' : Option (List ℕ)) (writes writes' : ℕ) (b : Benched)
+    : Type 0 where
   pub risen : HasRisen writes writes'
   pub lines : ObeysFront left b
   pub before : List Entry
@@ -197,7 +210,8 @@ pub record EndsUnwritten (quiet : Bool) (left taken taken' : Option (List ℕ)) 
   pub written : GainsFront (with_end taken (report_text quiet before)) taken' (entry_text quiet last)
 
 -- Status 5: memory was wanting. All entries were written.
-pub record EndsMemory (quiet : Bool) (left taken taken' : Option (List ℕ)) (writes writes' : ℕ) (b : Benched) : Type 0 where
+pub record EndsMemory (quiet : Bool) (left taken taken' : Option (List ℕ)) (writes writes' : ℕ) (b : Benched)
+    : Type 0 where
   pub lines : ObeysFront left b
   pub written : AddsFault (report_text quiet b.journal) memory_fault taken taken' writes writes'
 
@@ -229,7 +243,8 @@ pub record RanScript {S : Type 0} (quiet : Bool) (old new : Seen S) (n : ℕ) : 
   pub done : n ≡ 0 → EndsDone quiet old.left new.left old.taken new.taken new.bench
   pub still : n ≡ 0 → (new.reads ≡ old.reads) × (new.writes ≡ old.writes)
   pub refused : n ≡ 2 → EndsRefused quiet old.left old.taken new.taken old.writes new.writes new.bench
-  pub unread : n ≡ 3 → EndsUnread quiet old.left new.left old.taken new.taken old.reads new.reads old.writes new.writes new.bench
+  pub unread : n ≡ 3 → EndsUnread quiet old.left new.left old.taken new.taken old.reads new.reads old.writes new.writes
+      new.bench
   pub unwritten : n ≡ 4 → EndsUnwritten quiet old.left old.taken new.taken old.writes new.writes new.bench
   pub memory : n ≡ 5 → EndsMemory quiet old.left old.taken new.taken old.writes new.writes new.bench
   pub complete : Completes old new n
@@ -245,13 +260,15 @@ pub record EndsMade (seed count : ℕ) (taken taken' : Option (List ℕ)) (b : B
   pub written : taken' ≡ with_end taken (made_line seed count b.journal)
 
 -- Status 4: every line was obeyed, and the sink failed within the line about them.
-pub record EndsUntold (seed count : ℕ) (taken taken' : Option (List ℕ)) (writes writes' : ℕ) (b : Benched) : Type 0 where
+pub record EndsUntold (seed count : ℕ) (taken taken' : Option (List ℕ)) (writes writes' : ℕ) (b : Benched)
+    : Type 0 where
   pub risen : HasRisen writes writes'
   pub obeyed : AreObeyed (workload_lines seed count) b
   pub written : GainsFront taken taken' (made_line seed count b.journal)
 
 -- Status 5: memory was wanting, and nothing was told of the lines that were obeyed.
-pub record EndsUnmade (seed count : ℕ) (taken taken' : Option (List ℕ)) (writes writes' : ℕ) (b : Benched) : Type 0 where
+pub record EndsUnmade (seed count : ℕ) (taken taken' : Option (List ℕ)) (writes writes' : ℕ) (b : Benched)
+    : Type 0 where
   pub obeyed : FirstAreObeyed (workload_lines seed count) b
   pub written : AddsFault [] memory_fault taken taken' writes writes'
 
@@ -293,8 +310,8 @@ pub record IsSwept (lines : List (List ℕ)) : Type 0 where
   pub message : Msg
   pub spelled : Spells last (Write id message)
 
--- These runs are the first of its sweep: one of the script itself, whose last answer is `written`; and in order those with a
--- Break at one transmission of the write, of which there are no more than it has.
+-- These runs are the first of its sweep: one of the script itself, whose last answer is `written`; and in order those
+-- with a Break at one transmission of the write, of which there are no more than it has.
 pub record AreRuns (lines : List (List ℕ)) (runs : List (List Entry)) : Type 0 where
   pub script : IsSwept lines
   pub first : List Entry
@@ -305,7 +322,8 @@ pub record AreRuns (lines : List (List ℕ)) (runs : List (List Entry)) : Type 0
   pub last : last_entry first ≡ Some write
   pub written : write.answer ≡ Written
   pub few : length broken ≤ all_transmissions write.events
-  pub each : (i : ℕ) → i < length broken → IsRunOf (sweep_lines script.before script.last (read_line script.id) i) (get_or broken i [])
+  pub each : (i : ℕ) → i < length broken → IsRunOf (sweep_lines script.before script.last (read_line script.id) i)
+      (get_or broken i [])
 
 -- All of them are finished, one for each transmission.
 pub record HasSwept (lines : List (List ℕ)) (b : Benched) : Type 0 where
@@ -317,11 +335,12 @@ pub record HasSwept (lines : List (List ℕ)) (b : Benched) : Type 0 where
 pub record HasSweptSome (lines : List (List ℕ)) (b : Benched) : Type 0 where
   pub runs : AreRuns lines b.finished
   pub next : length runs.broken < all_transmissions runs.write.events
-      → FirstAreObeyed (sweep_lines runs.script.before runs.script.last (read_line runs.script.id) (length runs.broken)) b
+      → FirstAreObeyed (sweep_lines runs.script.before runs.script.last (read_line runs.script.id) (length runs.broken))
+      b
   pub over : length runs.broken ≡ all_transmissions runs.write.events → b.journal ≡ []
 
--- Line n is the first for which these aren't swept: it is refused, as in a run; it is one of fates; or it is the last, and no
--- write. Those before it were obeyed.
+-- Line n is the first for which these aren't swept: it is refused, as in a run; it is one of fates; or it is the last,
+-- and no write. Those before it were obeyed.
 pub record FirstUnswept (lines : List (List ℕ)) (b : Benched) (n : ℕ) : Type 0 where
   pub before : List (List ℕ)
   pub line : List ℕ
@@ -434,7 +453,8 @@ pub record EndsUnaudited (left taken taken' : Option (List ℕ)) (writes writes'
   pub written : AddsFault [] (line_fault number) taken taken' writes writes'
 
 -- Status 3: the source failed, and no line was followed.
-pub record EndsUnheard (taken taken' : Option (List ℕ)) (reads reads' writes writes' : ℕ) (b b' : Benched) : Type 0 where
+pub record EndsUnheard (taken taken' : Option (List ℕ)) (reads reads' writes writes' : ℕ) (b b' : Benched)
+    : Type 0 where
   pub risen : HasRisen reads reads'
   pub bench : b' ≡ b
   pub written : AddsFault [] read_fault taken taken' writes writes'

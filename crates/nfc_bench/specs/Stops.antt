@@ -41,7 +41,8 @@ pub record LineObeyed (old new : Benched) (n : ℕ) (l : List ℕ) (asks : Bool)
   pub asked : AreAsked asks follows.entries
 
 -- A line was obeyed, and its entry written, if it has one.
-pub record LineDone (quiet : Bool) (old new : Benched) (n : ℕ) (l : List ℕ) (taken taken' : Option (List ℕ)) : Type 0 where
+pub record LineDone (quiet : Bool) (old new : Benched) (n : ℕ) (l : List ℕ) (taken taken' : Option (List ℕ))
+    : Type 0 where
   pub follows : Follows old new n l
   pub written : taken' ≡ with_end taken (report_text quiet follows.entries)
 
@@ -53,15 +54,16 @@ pub record LineRefused (old new : Benched) (n m : ℕ) (l : List ℕ) (taken tak
   pub refused : IsTaken old.state l → ⊥
 
 -- It was obeyed, and a front of its entry was written.
-pub record LineCut (quiet : Bool) (old new : Benched) (n : ℕ) (l : List ℕ) (taken taken' : Option (List ℕ)) (writes writes' : ℕ) : Type 0 where
+pub record LineCut (quiet : Bool) (old new : Benched) (n : ℕ) (l : List ℕ) (taken taken' : Option (List ℕ))
+    (writes writes' : ℕ) : Type 0 where
   pub follows : Follows old new n l
   pub entry : Entry
   pub one : follows.entries ≡ entry ∷ []
   pub written : GainsFront taken taken' (entry_text quiet entry)
   pub risen : HasRisen writes writes'
 
--- Memory was wanting for a line: the journal and the finished runs stay. A bench that isn't spoiled is as before; what was
--- spoiled by it is so by the command that the line spells.
+-- Memory was wanting for a line: the journal and the finished runs stay. A bench that isn't spoiled is as before; what
+-- was spoiled by it is so by the command that the line spells.
 pub record Lost (old new : Benched) (l : List ℕ) : Type 0 where
   pub journal : new.journal ≡ old.journal
   pub runs : new.finished ≡ old.finished
@@ -86,8 +88,8 @@ pub record ObeyedBy (lines : List (List ℕ)) (b : Benched) : Type 0 where
   pub sound : b.spoiled ≡ false
   pub uncut : b.cut ≡ []
 
--- Line n of these lines is the first that isn't taken: those before it are, and it isn't behind what they spell. They were
--- obeyed.
+-- Line n of these lines is the first that isn't taken: those before it are, and it isn't behind what they spell. They
+-- were obeyed.
 pub record FirstUntaken (lines : List (List ℕ)) (b : Benched) (n : ℕ) : Type 0 where
   pub before : List (List ℕ)
   pub line : List ℕ
@@ -117,7 +119,8 @@ pub record RunRefused (quiet : Bool) (left taken taken' : Option (List ℕ)) (b 
   pub lines : RefusesLine left b n
   pub written : taken' ≡ with_end taken (report_text quiet b.journal)
 
-pub record RunUnread (quiet : Bool) (left left' taken taken' : Option (List ℕ)) (reads reads' : ℕ) (b : Benched) : Type 0 where
+pub record RunUnread (quiet : Bool) (left left' taken taken' : Option (List ℕ)) (reads reads' : ℕ) (b : Benched)
+    : Type 0 where
   pub risen : HasRisen reads reads'
   pub lines : ObeysWhole left left' b
   pub written : taken' ≡ with_end taken (report_text quiet b.journal)
@@ -127,7 +130,8 @@ pub record RunLost (quiet : Bool) (left taken taken' : Option (List ℕ)) (b : B
   pub written : taken' ≡ with_end taken (report_text quiet b.journal)
 
 -- why a run stopped
-abbrev pub RunStops : Bool → Option (List ℕ) → Option (List ℕ) → Option (List ℕ) → Option (List ℕ) → ℕ → ℕ → ℕ → ℕ → Benched → Stop → Type 0
+abbrev pub RunStops : Bool → Option (List ℕ) → Option (List ℕ) → Option (List ℕ) → Option (List ℕ) → ℕ → ℕ → ℕ → ℕ
+    → Benched → Stop → Type 0
 RunStops quiet left left' t t' r r' w w' b (Refused n) = RunRefused quiet left t t' b n
 RunStops quiet left left' t t' r r' w w' b ReadFault = RunUnread quiet left left' t t' r r' b
 RunStops quiet left left' t t' r r' w w' b WriteFault = EndsUnwritten quiet left t t' w w' b

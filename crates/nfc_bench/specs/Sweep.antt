@@ -1,5 +1,6 @@
 -- What a sweep runs, and what it tells of its runs. (This project's own.)
-use Rattle.std.specs.Prelude.{ℕ, ◌-◌, ◌/◌, ◌%◌, List, [], ◌∷◌, ◌++◌, codes, length, replicate, slice_get, slice_index_or, Option, Some, None, Bool, true, false, if◌then◌else◌, nat_eq, not, ◌&&◌}
+use Rattle.std.specs.Prelude.{ℕ, ◌-◌, ◌/◌, ◌%◌, List, [], ◌∷◌, ◌++◌, codes, length, replicate, slice_get}
+use Rattle.std.specs.Prelude.{slice_index_or, Option, Some, None, Bool, true, false, if◌then◌else◌, nat_eq, not, ◌&&◌}
 use Rattle.std.specs.Fmt.{decimal}
 use Rattle.std.specs.List.{count_by}
 use Rattle.std.specs.Cmp.Lexicographic.{pointwise}
@@ -20,13 +21,14 @@ use Rattle.nfc_bench.specs.declared.top.found.Found.{Found}
 unfoldable pub fates_line : ℕ → List ℕ → List ℕ
 fates_line passes letters = codes "fates " ++ (replicate passes 80 ++ letters)
 
--- The lines of fates by which so many transmissions pass and the next one is a Break. Each but the last has as many letters
--- as a line of them may have.
+-- The lines of fates by which so many transmissions pass and the next one is a Break. Each but the last has as many
+-- letters as a line of them may have.
 unfoldable pub break_lines : ℕ → List (List ℕ)
-break_lines passes = replicate (passes / most_fates) (fates_line most_fates []) ++ fates_line (passes % most_fates) (codes "B") ∷ []
+break_lines passes = replicate (passes / most_fates) (fates_line most_fates [])
+    ++ fates_line (passes % most_fates) (codes "B") ∷ []
 
--- The lines of a run in which so many transmissions of the last line pass and the next is a Break: those before the last
--- line, these fates, the last line, and one that reads its device.
+-- The lines of a run in which so many transmissions of the last line pass and the next is a Break: those before the
+-- last line, these fates, the last line, and one that reads its device.
 unfoldable pub sweep_lines : List (List ℕ) → List ℕ → List ℕ → ℕ → List (List ℕ)
 sweep_lines before last read passes = before ++ (break_lines passes ++ last ∷ read ∷ [])
 
@@ -105,8 +107,8 @@ found_among old new runs = record {
   with_new = count_by (λ run. is_new old new (told_in run)) runs;
 }
 
--- ... over the finished runs of a sweep behind the first: the old message is the one that the first of these told, and the
--- new one the one that the first run of all wrote
+-- ... over the finished runs of a sweep behind the first: the old message is the one that the first of these told, and
+-- the new one the one that the first run of all wrote
 unfoldable pub found_in : List (List Entry) → Found
 found_in [] = found_among None [] []
 found_in (first ∷ broken) = found_among (first_told broken) (written_in first) broken
@@ -114,4 +116,5 @@ found_in (first ∷ broken) = found_among (first_told broken) (written_in first)
 -- the line that tells it
 unfoldable pub found_line : Found → List ℕ
 found_line f =
-    codes "sweep " ++ decimal f.runs ++ codes " old " ++ decimal f.with_old ++ codes " empty " ++ decimal f.with_none ++ codes " new " ++ decimal f.with_new ++ codes "\n"
+    codes "sweep " ++ decimal f.runs ++ codes " old " ++ decimal f.with_old ++ codes " empty " ++ decimal f.with_none
+    ++ codes " new " ++ decimal f.with_new ++ codes "\n"

@@ -1,5 +1,6 @@
 -- Why the parts of a sweep stop.
-use Rattle.std.specs.Prelude.{◌≡◌, ◌⊎◌, ℕ, ◌+◌, ◌-◌, ◌<◌, ◌≤◌, List, [], ◌∷◌, ◌++◌, length, take, get_or, Bool, true, false, Option, Some, IfSome, Result, Err}
+use Rattle.std.specs.Prelude.{◌≡◌, ◌⊎◌, ℕ, ◌+◌, ◌-◌, ◌<◌, ◌≤◌, List, [], ◌∷◌, ◌++◌, length, take, get_or, Bool, true}
+use Rattle.std.specs.Prelude.{false, Option, Some, IfSome, Result, Err}
 use Rattle.nfc_io.specs.Counts.{HasRisen}
 use Rattle.nfc_io.specs.Lines.{lines_of}
 use Rattle.bench_script.specs.declared.command.Command.{Command}
@@ -16,7 +17,8 @@ use Rattle.nfc_bench.specs.declared.top.found.Found.{Found}
 use Rattle.nfc_bench.specs.declared.top.sweeping.Cut.{Cut}
 use Rattle.nfc_bench.specs.declared.top.sweeping.Cut.TheVariants.{Refused, ReadFault, Memory}
 use Rattle.nfc_bench.specs.Reading.{Scripted}
-use Rattle.nfc_bench.specs.Run.{IsFates, IsWrite, HaveNoFates, IsRunOf, AreObeyed, FirstAreObeyed, HasSwept, HasSweptSome, FirstUnswept, IsUnwritten, Unsweeps, ObeysFront, SweepsSome}
+use Rattle.nfc_bench.specs.Run.{IsFates, IsWrite, HaveNoFates, IsRunOf, AreObeyed, FirstAreObeyed, HasSwept}
+use Rattle.nfc_bench.specs.Run.{HasSweptSome, FirstUnswept, IsUnwritten, Unsweeps, ObeysFront, SweepsSome}
 use Rattle.nfc_bench.specs.Stops.{ObeyedBy}
 use Rattle.nfc_bench.specs.Sweep.{Swept, sweep_lines, read_line, last_entry, all_transmissions, found_in}
 
@@ -26,7 +28,8 @@ MayStand is_last line = (IsFates line → ⊥) × (is_last ≡ true → IsWrite 
 
 -- It may not: it spells nothing, or is one of fates, or the last and no write.
 abbrev pub MayNotStand : Bool → List ℕ → Type 0
-MayNotStand is_last line = ((c : Command) → Spells line c → ⊥) ⊎ (IsFates line ⊎ ((is_last ≡ true) × (IsWrite line → ⊥)))
+MayNotStand is_last line = ((c : Command) → Spells line c → ⊥)
+    ⊎ (IsFates line ⊎ ((is_last ≡ true) × (IsWrite line → ⊥)))
 
 -- a command of fates, and a write
 abbrev pub is_fates : Command → Bool
@@ -45,7 +48,8 @@ Stands is_last line false = MayNotStand is_last line
 pub record StandsTo (s : Scripted) (n : ℕ) : Type 0 where
   pub within : n ≤ length s.lines
   pub none : HaveNoFates (take n s.lines)
-  pub stop : n < length s.lines → (is_last : Bool) × (is_last ≡ true → (n + 1 ≡ length s.lines) × (s.is_cut ≡ false)) × MayNotStand is_last (get_or s.lines n [])
+  pub stop : n < length s.lines → (is_last : Bool) × (is_last ≡ true → (n + 1 ≡ length s.lines) × (s.is_cut ≡ false))
+      × MayNotStand is_last (get_or s.lines n [])
   pub write : n ≡ length s.lines → 0 < n → s.is_cut ≡ false → IsWrite (get_or s.lines (n - 1) [])
 
 -- A script was read to its end, its last line is a write, none is one of fates, and they were obeyed.

@@ -30,16 +30,18 @@ pub record TellsThree (old new : List ℕ) (run : List Entry) : Type 0 where
   pub told : told_in run ≡ Some message
   pub three : (message ≡ old) ⊎ ((message ≡ []) ⊎ (message ≡ new))
 
--- So does each run of a sweep behind the first: the old message is the one that the tag holds before the last line, and the
--- new one is what that writes. The first of them tells the old one.
+-- So does each run of a sweep behind the first: the old message is the one that the tag holds before the last line, and
+-- the new one is what that writes. The first of them tells the old one.
 abbrev pub SweptIsRead : Type 0
 SweptIsRead =
     (lines : List (List ℕ)) (runs : List (List Entry)) (r : AreRuns lines runs)
-    → (old : List ℕ) × HeldBehind r.script.before r.script.id old × ((i : ℕ) → i < length r.broken → TellsThree old (message_of r.script.message) (get_or r.broken i []))
+    → (old : List ℕ) × HeldBehind r.script.before r.script.id old
+    × ((i : ℕ) → i < length r.broken → TellsThree old (message_of r.script.message) (get_or r.broken i []))
     × (0 < length r.broken → first_told r.broken ≡ Some old)
 
 -- So what is counted as neither the old message nor the new one is the empty one.
 abbrev pub NeitherIsEmpty : Type 0
 NeitherIsEmpty =
     (lines : List (List ℕ)) (runs : List (List Entry)) (r : AreRuns lines runs) (i : ℕ) → i < length r.broken
-    → is_neither (first_told r.broken) (written_in r.first) (told_in (get_or r.broken i [])) ≡ true → told_in (get_or r.broken i []) ≡ Some []
+    → is_neither (first_told r.broken) (written_in r.first) (told_in (get_or r.broken i [])) ≡ true
+    → told_in (get_or r.broken i []) ≡ Some []

@@ -4,7 +4,8 @@ ghost use Rattle.std.specs.Prelude.{false, map, string_bytes, ◌⊎◌, ◌≡�
 ghost use Rattle.nfc_io.specs.Counts.{HasRisen};
 ghost use Rattle.nfc_io.specs.Lines.{lines_of};
 ghost use Rattle.nfc_bench.specs.Limits.{most_read};
-ghost use Rattle.nfc_bench.specs.Run.{Ran, sees, line_fault, AllTaken, AddsFault, EndsDone, EndsRefused, EndsUnread, EndsUnwritten, EndsMemory, ReadsInTime, ReadsAtMost};
+ghost use Rattle.nfc_bench.specs.Run.{Ran, sees, line_fault, AllTaken, AddsFault, EndsDone, EndsRefused, EndsUnread};
+ghost use Rattle.nfc_bench.specs.Run.{EndsUnwritten, EndsMemory, ReadsInTime, ReadsAtMost};
 ghost use Rattle.bench_world.specs.Obeying.{new_bench};
 
 mod audit;
@@ -52,8 +53,8 @@ use sweeping::sweep_and_tell;
 use text::{push_number, push_text};
 use words::{Form, form_of};
 
-/// Does what the words ask for, with a fault line where it stops early; answers the status. The status is that of the first
-/// stop, and a fault line that can't be written doesn't change it.
+/// Does what the words ask for, with a fault line where it stops early; answers the status. The status is that of the
+/// first stop, and a fault line that can't be written doesn't change it.
 pub fn run_bench<S: Source, K: Sink>(
     alloc: Global,
     words: &[String],

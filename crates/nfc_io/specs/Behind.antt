@@ -11,8 +11,8 @@ abbrev pub bytes_of : Rest → List ℕ
 bytes_of (Whole bytes) = bytes.items
 bytes_of (TooLong bytes) = bytes.items
 
--- Bytes were read behind those held, until there were more than so many: behind the source's end none, and in the last read no more
--- than one read brings.
+-- Bytes were read behind those held, until there were more than so many: behind the source's end none, and in the last
+-- read no more than one read brings.
 pub record ReadsOn (most : ℕ) (is_ended : Bool) (held bytes : List ℕ) (left left' : Option (List ℕ)) : Type 0 where
   pub got : List ℕ
   pub parts : bytes ≡ held ++ got
@@ -21,7 +21,8 @@ pub record ReadsOn (most : ℕ) (is_ended : Bool) (held bytes : List ℕ) (left 
 
 -- These are all the bytes behind the lines, no more than so many, and the source is at its end; or there are more.
 abbrev pub IsAll : ℕ → Bool → Option (List ℕ) → Rest → Type 0
-IsAll most is_ended left' (Whole bytes) = (length bytes.items ≤ most) × (is_ended ≡ false → IfSome left' (λ rest. rest ≡ []))
+IsAll most is_ended left' (Whole bytes) = (length bytes.items ≤ most)
+    × (is_ended ≡ false → IfSome left' (λ rest. rest ≡ []))
 IsAll most is_ended left' (TooLong bytes) = most < length bytes.items
 
 -- A reader hands over what it holds, and what its source has behind that.
@@ -40,8 +41,8 @@ abbrev pub IsWhole : Rest → Type 0
 IsWhole (Whole bytes) = Unit {0}
 IsWhole (TooLong bytes) = ⊥
 
--- All that a source gave: the lines, each with its LF, and what is handed over behind them; or the last line lacks its LF, and nothing
--- is handed over. Where that is whole, the source is at its end, and these are its first lines.
+-- All that a source gave: the lines, each with its LF, and what is handed over behind them; or the last line lacks its
+-- LF, and nothing is handed over. Where that is whole, the source is at its end, and these are its first lines.
 pub record HasGivenAll (lines : List (List ℕ)) (left left' : Option (List ℕ)) (rest : Rest) : Type 0 where
   pub bytes : List ℕ
   pub read : left ≡ with_front bytes left'

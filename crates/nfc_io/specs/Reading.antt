@@ -1,5 +1,6 @@
 -- Lines that are read one by one. This project's own.
-use Rattle.std.specs.Prelude.{◌≡◌, ℕ, ◌+◌, ◌<◌, ◌≤◌, ◌⊎◌, List, [], ◌∷◌, ◌++◌, length, take, slice_index, Bool, true, false, Option, Some, None, IfSome, Result, Ok, Err}
+use Rattle.std.specs.Prelude.{◌≡◌, ℕ, ◌+◌, ◌<◌, ◌≤◌, ◌⊎◌, List, [], ◌∷◌, ◌++◌, length, take, slice_index, Bool, true}
+use Rattle.std.specs.Prelude.{false, Option, Some, None, IfSome, Result, Ok, Err}
 use Rattle.nfc_io.specs.declared.line_reader.LineStop.{LineStop}
 use Rattle.nfc_io.specs.declared.line_reader.LineStop.TheVariants.{ReadFault, TooLong}
 use Rattle.nfc_io.specs.declared.held.LineEnd.{LineEnd}
@@ -14,8 +15,8 @@ longest = 4096
 abbrev pub most_of_a_read : ℕ
 most_of_a_read = 4096
 
--- A reader of lines: the last line that it gave, the bytes that were read and aren't given yet, whether the source came to its end,
--- and why the reader stopped.
+-- A reader of lines: the last line that it gave, the bytes that were read and aren't given yet, whether the source came
+-- to its end, and why the reader stopped.
 pub record Lined : Type 0 where
   pub line : List ℕ
   pub held : List ℕ
@@ -25,8 +26,8 @@ pub record Lined : Type 0 where
 abbrev pub new_lined : Lined
 new_lined = record { line = []; held = []; is_ended = false; stop = None }
 
--- These bytes were wanted: with those held before, what all reads but the last brought was no whole line and none too long; and the
--- last brought at most so many.
+-- These bytes were wanted: with those held before, what all reads but the last brought was no whole line and none too
+-- long; and the last brought at most so many.
 pub record AreWanted (held got : List ℕ) : Type 0 where
   pub front : List ℕ
   pub chunk : List ℕ
@@ -42,9 +43,11 @@ pub record Fetches (is_ended : Bool) (held text : List ℕ) (left left' : Option
   pub read : left ≡ with_front got left'
   pub wanted : (got ≡ []) ⊎ ((is_ended ≡ false) × AreWanted held got)
 
--- A text's first line was given: one that ends with LF, and what stands behind that is held; or the last, and nothing is.
+-- A text's first line was given: one that ends with LF, and what stands behind that is held; or the last, and nothing
+-- is.
 pub record GivesLine (text : List ℕ) (b : Lined) : Type 0 where
-  pub parts : (text ≡ b.line ++ 10 ∷ b.held) ⊎ ((text ≡ b.line) × (b.held ≡ []) × (0 < length b.line) × (b.is_ended ≡ true))
+  pub parts : (text ≡ b.line ++ 10 ∷ b.held) ⊎ ((text ≡ b.line) × (b.held ≡ []) × (0 < length b.line)
+      × (b.is_ended ≡ true))
   pub clean : NoLf b.line
   pub short : length b.line ≤ longest
   pub going : b.stop ≡ None
@@ -73,8 +76,8 @@ Finds a text (Ok false) b = (text ≡ []) × (b ≡ record a { is_ended = true }
 Finds a text (Err TooLong) b = ⊥
 Finds a text (Err ReadFault) b = (a.is_ended ≡ false) × (text ≡ []) × (b ≡ record a { stop = Some ReadFault })
 
--- A look at whether something follows: it reads once where nothing is held and the source isn't known to be at its end, and else
--- not at all.
+-- A look at whether something follows: it reads once where nothing is held and the source isn't known to be at its end,
+-- and else not at all.
 pub record Looks (a b : Lined) (left left' : Option (List ℕ)) (result : Result Bool LineStop) : Type 0 where
   pub got : List ℕ
   pub read : left ≡ with_front got left'
@@ -110,29 +113,36 @@ abbrev pub Lacks : Bool → List ℕ → LineStop → Type 0
 Lacks is_ended text TooLong = (longest < length text) × NoLf (take (longest + 1) text)
 Lacks is_ended text ReadFault = (is_ended ≡ false) × (length text ≤ longest) × NoLf text
 
--- Calls, one after the other, that each gave a line: these lines, from one state of the reader and the source to another.
+-- Calls, one after the other, that each gave a line: these lines, from one state of the reader and the source to
+-- another.
 abbrev pub GaveLines : List (List ℕ) → Lined → Option (List ℕ) → Lined → Option (List ℕ) → Type 0
 GaveLines [] a left b left' = (b ≡ a) × (left' ≡ left)
 GaveLines (l ∷ ls) a left b left' =
     (m : Lined) × (mid : Option (List ℕ)) × Advances a m left mid (Ok true) × (m.line ≡ l) × GaveLines ls m mid b left'
 
--- The bytes are these lines, each with its LF, and those held behind them; or the last line lacks its LF, and nothing is held.
+-- The bytes are these lines, each with its LF, and those held behind them; or the last line lacks its LF, and nothing
+-- is held.
 abbrev pub AreSpelled : List ℕ → List (List ℕ) → List ℕ → Type 0
 AreSpelled bytes lines held =
     (bytes ≡ joined lines ++ held)
-    ⊎ ((held ≡ []) × (before : List (List ℕ)) × (last : List ℕ) × (lines ≡ before ++ last ∷ []) × (bytes ≡ joined before ++ last))
+    ⊎ ((held ≡ []) × (before : List (List ℕ)) × (last : List ℕ) × (lines ≡ before ++ last ∷ [])
+    × (bytes ≡ joined before ++ last))
 
--- What a reader has given since it was made, which is all that its source gave it but what it holds: only behind the source's end may
--- the last line lack its LF. Whatever follows, these lines are the first, and at the source's end nothing follows.
-pub record HasGiven (lines : List (List ℕ)) (left : Option (List ℕ)) (b : Lined) (left' : Option (List ℕ)) : Type 0 where
+-- What a reader has given since it was made, which is all that its source gave it but what it holds: only behind the
+-- source's end may the last line lack its LF. Whatever follows, these lines are the first, and at the source's end
+-- nothing follows.
+pub record HasGiven (lines : List (List ℕ)) (left : Option (List ℕ)) (b : Lined) (left' : Option (List ℕ))
+    : Type 0 where
   pub bytes : List ℕ
   pub read : left ≡ with_front bytes left'
   pub spelled : AreSpelled bytes lines b.held
   pub whole : b.is_ended ≡ false → bytes ≡ joined lines ++ b.held
-  pub first : (more : List ℕ) → (b.is_ended ≡ true → more ≡ []) → lines_of (bytes ++ more) ≡ lines ++ lines_of (b.held ++ more)
+  pub first : (more : List ℕ) → (b.is_ended ≡ true → more ≡ [])
+      → lines_of (bytes ++ more) ≡ lines ++ lines_of (b.held ++ more)
   pub ended : b.is_ended ≡ true → IfSome left' (λ rest. rest ≡ [])
 
 -- However a source cuts its bytes, the lines that are given are those of its bytes, in order.
 abbrev pub GivesInOrder : Type 0
 GivesInOrder =
-    (lines : List (List ℕ)) (left left' : Option (List ℕ)) (b : Lined) → GaveLines lines new_lined left b left' → HasGiven lines left b left'
+    (lines : List (List ℕ)) (left left' : Option (List ℕ)) (b : Lined) → GaveLines lines new_lined left b left'
+    → HasGiven lines left b left'

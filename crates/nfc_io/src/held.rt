@@ -1,5 +1,6 @@
 //! Bytes that were read and aren't given yet.
-ghost use Rattle.std.specs.Prelude.{◌≡◌, ◌≢◌, ◌≤◌, ◌-◌, [], ◌++◌, length, take, drop, Err, IfOk, IfErr, OnErr, OnOk, MatchOption};
+ghost use Rattle.std.specs.Prelude.{◌≡◌, ◌≢◌, ◌≤◌, ◌-◌, [], ◌++◌, length, take, drop, Err, IfOk, IfErr, OnErr, OnOk};
+ghost use Rattle.std.specs.Prelude.{MatchOption};
 ghost use Rattle.nfc_io.specs.Counts.{HasRisen};
 ghost use Rattle.nfc_io.specs.Lines.{NoLf};
 ghost use Rattle.nfc_io.specs.Reading.{HoldsLf, Gets, Fetches, Reaches, Lacks};
@@ -127,7 +128,8 @@ impl Held {
         Ok(n)
     }
 
-    /// Reads until the first line of the bytes is whole or too long, or ends with the source, at whose end nothing is read.
+    /// Reads until the first line of the bytes is whole or too long, or ends with the source, at whose end nothing is
+    /// read.
     pub fn reach<S: Source>(&mut self, source: &mut S, ended: bool) -> Result<LineEnd, LineStop>
         ensures fetched { Fetches ended self.old self.new (S.left source.old) (S.left source.new) }
         ensures ok { IfOk result (λ e. Reaches ended self.new (S.left source.new) e) }

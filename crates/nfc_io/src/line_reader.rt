@@ -23,8 +23,8 @@ pub enum LineStop {
     TooLong = 2,
 }
 
-/// Gives the lines of a source one by one, however the source cuts its bytes. It holds the last line and the bytes behind
-/// it, in 8,193 bytes that it has from the start. Each call is handed the same source.
+/// Gives the lines of a source one by one, however the source cuts its bytes. It holds the last line and the bytes
+/// behind it, in 8,193 bytes that it has from the start. Each call is handed the same source.
 #[derive(Debug, Drop)]
 pub struct LineReader {
     line: Vec<u8>,
@@ -64,8 +64,8 @@ impl LineReader {
         &self.line
     }
 
-    /// Goes on to the next line, and says whether there is one: none is behind the source's end. It reads only where it holds
-    /// no whole line.
+    /// Goes on to the next line, and says whether there is one: none is behind the source's end. It reads only where it
+    /// holds no whole line.
     pub fn advance<S: Source>(&mut self, source: &mut S) -> Result<bool, LineStop>
         ensures next { self.old.stop ≡ None
             → Advances self.old self.new (S.left source.old) (S.left source.new) result }
@@ -136,8 +136,8 @@ impl LineReader {
         }
     }
 
-    /// Hands over what stands behind the last line: the bytes held, and those that the source has behind them, to its end
-    /// or until there are more than so many.
+    /// Hands over what stands behind the last line: the bytes held, and those that the source has behind them, to its
+    /// end or until there are more than so many.
     pub fn into_rest<S: Source>(
         mut self,
         alloc: Global,

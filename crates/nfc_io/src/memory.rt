@@ -1,5 +1,6 @@
 //! A source and a sink in memory, whose calls fail as planned.
-ghost use Rattle.std.specs.Prelude.{◌≡◌, ◌+◌, ◌<◌, ◌≤◌, ◌↔◌, ◌⊎◌, [], ◌++◌, length, take, Some, IsErr, OnOk, OnErr, IfOk, min};
+ghost use Rattle.std.specs.Prelude.{◌≡◌, ◌+◌, ◌<◌, ◌≤◌, ◌↔◌, ◌⊎◌, [], ◌++◌, length, take, Some, IsErr, OnOk, OnErr};
+ghost use Rattle.std.specs.Prelude.{IfOk, min};
 
 use crate::failed::Failed;
 use crate::plain::PlainSource;

@@ -38,7 +38,8 @@ pub(crate) fn read_on<S: Source>(
     ended: bool,
     most: usize,
 ) -> Result<Rest, RestFault>
-    ensures on { IfOk result (λ rest. ReadsOn most ended held.old (bytes_of rest) (S.left source.old) (S.left source.new)) }
+    ensures on { IfOk result (λ rest. ReadsOn most ended held.old (bytes_of rest) (S.left source.old)
+        (S.left source.new)) }
     ensures all { IfOk result (λ rest. IsAll most ended (S.left source.new) rest) }
     ensures some { OnErr result (TakesSome most (S.left source.old) (S.left source.new)) }
     ensures still { result ≢ Err RestFault.ReadFault → S.faults source.new ≡ S.faults source.old }

@@ -1,6 +1,7 @@
 -- A resolution from any start: the NFC-A devices are in any state, and active ones under any machine (NFC Forum Digital
 -- Protocol; what a machine above a front does at the calls of a reader is this project's own).
-use Rattle.std.specs.Prelude.{◌≡◌, ◌⊎◌, ℕ, ◌<◌, ◌≤◌, List, [], ◌∷◌, ◌++◌, length, drop, Bool, true, false, None, Result, Ok, Err}
+use Rattle.std.specs.Prelude.{◌≡◌, ◌⊎◌, ℕ, ◌<◌, ◌≤◌, List, [], ◌∷◌, ◌++◌, length, drop, Bool, true, false, None, Result}
+use Rattle.std.specs.Prelude.{Ok, Err}
 use Rattle.nfc_base.specs.declared.frame.Tech.TheVariants.{A}
 use Rattle.nfc_base.specs.Signal.{Signal}
 use Rattle.nfc_base.specs.Far.{Untouched}
@@ -10,15 +11,17 @@ use Rattle.air_core.specs.Turn.{Air}
 use Rattle.nfca_poll.specs.declared.kind.Kind.{Kind}
 use Rattle.nfca_poll.specs.declared.fault.Picked.{Picked}
 use Rattle.nfca_poll.specs.declared.fault.PollFault.{PollFault}
-use Rattle.nfca_poll.specs.declared.fault.PollFault.TheVariants.{Nobody, Disturbed, FieldLost, Memory, NotFound, BadAnswer}
+use Rattle.nfca_poll.specs.declared.fault.PollFault.TheVariants.{Nobody, Disturbed, FieldLost, Memory, NotFound}
+use Rattle.nfca_poll.specs.declared.fault.PollFault.TheVariants.{BadAnswer}
 use Rattle.nfca_poll.specs.Ident.{IsIdent}
 use Rattle.nfca_poll.specs.Calls.{Call, Calls, call_of}
 use Rattle.nfca_poll.specs.Front.{Front, Off, Idle, Sleep, Ready, Active, home, is_ready, is_active}
 use Rattle.nfca_poll.specs.Crowd.{Card, Each, ahead, crowd_bits, is_idle, StepsByFront, AreOurs, AreDistinct, cards}
 
--- An active listener stays active at a frame, as a card does that took RATS, or a peer that took ATR_REQ: it hands nothing
--- over, says nothing, and shows what it showed before.
-pub record StaysActive {L : Type 0} (m : Machine L) (identifier : L → List ℕ) (kind : L → Kind) (front : L → Front) (l : L) (f : Signal) : Type 0 where
+-- An active listener stays active at a frame, as a card does that took RATS, or a peer that took ATR_REQ: it hands
+-- nothing over, says nothing, and shows what it showed before.
+pub record StaysActive {L : Type 0} (m : Machine L) (identifier : L → List ℕ) (kind : L → Kind) (front : L → Front)
+    (l : L) (f : Signal) : Type 0 where
   pub untouched : m.handed l f ≡ Untouched
   pub silent : m.answer l f None ≡ None
   pub same_front : front (m.after l f None) ≡ front l
@@ -26,7 +29,8 @@ pub record StaysActive {L : Type 0} (m : Machine L) (identifier : L → List ℕ
   pub same_id : identifier (m.after l f None) ≡ identifier l
   pub same_kind : kind (m.after l f None) ≡ kind l
 
--- At each call by which a reader polls, an active listener leaves the state Active by the front's table, or stays in it.
+-- At each call by which a reader polls, an active listener leaves the state Active by the front's table, or stays in
+-- it.
 abbrev pub YieldsToCalls : {L : Type 0} {m : Machine L} {identifier : L → List ℕ} → AreOurs m identifier → Type 0
 YieldsToCalls {L = L} {m = m} {identifier = identifier} ours =
     (l : L) (f : Signal) (c : Call) → m.tech l ≡ A → is_active (ours.front l) ≡ true → call_of f ≡ Calls c
@@ -80,10 +84,10 @@ pub record PicksOne (w : List Card) (p : Picked) (v : List Card) : Type 0 where
 abbrev pub IsWaiting : Card → Type 0
 IsWaiting c = (is_active c.front ≡ false) × (home_of c.front ≡ Idle)
 
--- How a resolution ends among devices w in any state, which are v afterwards, by how many of its transmissions had noise: it
--- picks one of them; it finds nobody only where none waits to be found or two transmissions had noise; it is disturbed
--- only by noise; and it hears no bad answer. Unless the field is lost each device keeps its identifier, its kind and its
--- home.
+-- How a resolution ends among devices w in any state, which are v afterwards, by how many of its transmissions had
+-- noise: it picks one of them; it finds nobody only where none waits to be found or two transmissions had noise; it is
+-- disturbed only by noise; and it hears no bad answer. Unless the field is lost each device keeps its identifier, its
+-- kind and its home.
 abbrev pub EndsFromAny : List Card → Result Picked PollFault → List Card → ℕ → Type 0
 EndsFromAny w (Ok p) v n = PicksOne w p v
 EndsFromAny w (Err Nobody) v n = Pairs Keeps w v × (Each (λ c. IsWaiting c → ⊥) w ⊎ (2 ≤ n))
@@ -94,23 +98,30 @@ EndsFromAny w (Err NotFound) v n = ⊥
 EndsFromAny w (Err BadAnswer) v n = ⊥
 
 -- So a call over listeners of this project ends, each with an identifier of its own.
-abbrev pub PicksFromAny : {L : Type 0} {m : Machine L} {identifier : L → List ℕ} → AreOurs m identifier → Air L → Result Picked PollFault → Air L → Type 0
+abbrev pub PicksFromAny : {L : Type 0} {m : Machine L} {identifier : L → List ℕ} → AreOurs m identifier → Air L
+    → Result Picked PollFault → Air L → Type 0
 PicksFromAny ours old r new =
-    HaveOwnIdents (cards ours old.listeners) → EndsFromAny (cards ours old.listeners) r (cards ours new.listeners) (noise (drop (length old.trace) new.trace))
+    HaveOwnIdents (cards ours old.listeners) → EndsFromAny (cards ours old.listeners) r (cards ours new.listeners)
+    (noise (drop (length old.trace) new.trace))
 
--- Listeners with this mark have no link, as a card before RATS and a peer before ATR_REQ: at each call by which a reader polls,
--- an active one leaves the state Active by the front's table, and each keeps the mark.
-abbrev pub LeavesAtCalls : {L : Type 0} {m : Machine L} {identifier : L → List ℕ} → AreOurs m identifier → (L → Bool) → Type 0
+-- Listeners with this mark have no link, as a card before RATS and a peer before ATR_REQ: at each call by which a
+-- reader polls, an active one leaves the state Active by the front's table, and each keeps the mark.
+abbrev pub LeavesAtCalls : {L : Type 0} {m : Machine L} {identifier : L → List ℕ} → AreOurs m identifier → (L → Bool)
+    → Type 0
 LeavesAtCalls {L = L} {m = m} {identifier = identifier} ours unlinked =
     (l : L) (f : Signal) (c : Call) → m.tech l ≡ A → unlinked l ≡ true → call_of f ≡ Calls c
-    → (is_active (ours.front l) ≡ true → StepsByFront m identifier ours.kind ours.front l f) × (unlinked (m.after l f None) ≡ true)
+    → (is_active (ours.front l) ≡ true → StepsByFront m identifier ours.kind ours.front l f)
+    × (unlinked (m.after l f None) ≡ true)
 
 -- each NFC-A listener among these has the mark
 abbrev pub AreUnlinked : {L : Type 0} → Machine L → (L → Bool) → List L → Type 0
 AreUnlinked m unlinked ls = Each (λ l. m.tech l ≡ A → unlinked l ≡ true) ls
 
--- Among listeners without links the device that is picked is active alone, and unless the field is lost none has a link then.
-abbrev pub PicksAlone : {L : Type 0} {m : Machine L} {identifier : L → List ℕ} → AreOurs m identifier → (L → Bool) → Air L → Result Picked PollFault → Air L → Type 0
+-- Among listeners without links the device that is picked is active alone, and unless the field is lost none has a link
+-- then.
+abbrev pub PicksAlone : {L : Type 0} {m : Machine L} {identifier : L → List ℕ} → AreOurs m identifier → (L → Bool)
+    → Air L → Result Picked PollFault → Air L → Type 0
 PicksAlone {m = m} ours unlinked old r new =
     HaveOwnIdents (cards ours old.listeners) → AreUnlinked m unlinked old.listeners
-    → ((r ≡ Err FieldLost) ⊎ AreUnlinked m unlinked new.listeners) × ((p : Picked) → r ≡ Ok p → Each (λ d. is_active d.front ≡ true → d.id ≡ p.id) (cards ours new.listeners))
+    → ((r ≡ Err FieldLost) ⊎ AreUnlinked m unlinked new.listeners)
+    × ((p : Picked) → r ≡ Ok p → Each (λ d. is_active d.front ≡ true → d.id ≡ p.id) (cards ours new.listeners))

@@ -1,6 +1,7 @@
--- What the calls of polling answer, by what was heard of their turns (NFC Forum Digital Protocol; ISO/IEC 14443-3; ISO/IEC
--- 15693-3; four presence requests and four tries are this project's own).
-use Rattle.std.specs.Prelude.{◌≡◌, ◌↔◌, ◌⊎◌, ◌≤◌, ◌<◌, ℕ, ◌+◌, List, ◌++◌, length, drop, filter, slice_index, Bool, true, false, not, ◌&&◌, ◌||◌, nat_lt, nat_le, Option, Result, Ok, Err}
+-- What the calls of polling answer, by what was heard of their turns (NFC Forum Digital Protocol; ISO/IEC 14443-3;
+-- ISO/IEC 15693-3; four presence requests and four tries are this project's own).
+use Rattle.std.specs.Prelude.{◌≡◌, ◌↔◌, ◌⊎◌, ◌≤◌, ◌<◌, ℕ, ◌+◌, List, ◌++◌, length, drop, filter, slice_index, Bool}
+use Rattle.std.specs.Prelude.{true, false, not, ◌&&◌, ◌||◌, nat_lt, nat_le, Option, Result, Ok, Err}
 use Rattle.std.specs.List.{list_any}
 use Rattle.nfc_base.specs.Bits.{bits}
 use Rattle.nfc_base.specs.Signal.{Signal}
@@ -51,15 +52,18 @@ has_no_present ts = has_strange is_present ts
 abbrev pub presence_turns : List Turn → List Turn
 presence_turns ts = filter (λ t. is_sens_req t.request) ts
 
--- What no device answers to SDD_REQ, whose known bits go before what was heard: a level of another length or with a wrong
--- check byte, or a clash behind its first 32 bits.
+-- What no device answers to SDD_REQ, whose known bits go before what was heard: a level of another length or with a
+-- wrong check byte, or a clash behind its first 32 bits.
 abbrev pub is_wrong_level : List Bool → Option Heard → Bool
-is_wrong_level known o = by_heard o (λ g. not (is_level (known ++ bits g))) (λ g. nat_le collision_bits (length (known ++ bits g))) false false false
+is_wrong_level known o = by_heard o (λ g. not (is_level (known ++ bits g)))
+    (λ g. nat_le collision_bits (length (known ++ bits g))) false false false
 
--- What none answers to SEL_REQ of a level: anything but one byte, which says that another level follows exactly where this one
--- says so; the third never does. Nor do two devices answer differently.
+-- What none answers to SEL_REQ of a level: anything but one byte, which says that another level follows exactly where
+-- this one says so; the third never does. Nor do two devices answer differently.
 abbrev pub is_wrong_res : ℕ → List ℕ → Option Heard → Bool
-is_wrong_res k l o = by_heard o (λ g. not (is_one_byte g && same_bit (has_bit (slice_index g.bytes 0) 0x04) (nat_lt k 3 && cascades l))) (λ g. true) false false false
+is_wrong_res k l o =
+    by_heard o (λ g. not (is_one_byte g && same_bit (has_bit (slice_index g.bytes 0) 0x04) (nat_lt k 3 && cascades l)))
+    (λ g. true) false false false
 
 abbrev pub is_wrong : Reading → Option Heard → Bool
 is_wrong (Calls Sens) h = false
@@ -126,7 +130,8 @@ pub record TellsPickedV (ts : List Turn) (r : Result (Unit {0}) PollFault) : Typ
 abbrev pub sleeps : List Turn → ℕ
 sleeps ts = length (filter (λ t. is_slp t.request) ts)
 
--- a bad answer of a call by rounds: one was heard that no device gives, or as many devices were put to sleep as a round finds
+-- a bad answer of a call by rounds: one was heard that no device gives, or as many devices were put to sleep as a round
+-- finds
 abbrev pub IsBadRound : List Turn → Type 0
 IsBadRound ts = (has_wrong ts ≡ true) ⊎ (most_found ≤ sleeps ts)
 

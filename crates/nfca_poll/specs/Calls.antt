@@ -1,5 +1,6 @@
 -- The requests by which a reader finds and selects NFC-A devices (NFC Forum Digital Protocol; ISO/IEC 14443-3).
-use Rattle.std.specs.Prelude.{ℕ, ◌+◌, ◌-◌, ◌*◌, ◌/◌, ◌%◌, List, [], ◌∷◌, ◌++◌, length, drop, slice_index, Bool, ◌==◌, ◌&&◌, nat_le, if◌then◌else◌}
+use Rattle.std.specs.Prelude.{ℕ, ◌+◌, ◌-◌, ◌*◌, ◌/◌, ◌%◌, List, [], ◌∷◌, ◌++◌, length, drop, slice_index, Bool, ◌==◌}
+use Rattle.std.specs.Prelude.{◌&&◌, nat_le, if◌then◌else◌}
 use Rattle.nfc_base.specs.declared.frame.Tech.TheVariants.{A}
 use Rattle.nfc_base.specs.Signal.{Signal, whole_a, part_a}
 use Rattle.nfc_base.specs.Bits.{bits, bits_of, bit_count, of_bits}
@@ -67,7 +68,8 @@ is_sdd f =
 
 -- SEL_REQ has SEL_CMD, SEL_PAR and five bytes
 abbrev pub is_sel : Signal → Bool
-is_sel f = (f.tail == 0) && (length f.bytes == 7) && is_sel_cmd (slice_index f.bytes 0) && (slice_index f.bytes 1 == all_known)
+is_sel f = (f.tail == 0) && (length f.bytes == 7) && is_sel_cmd (slice_index f.bytes 0)
+    && (slice_index f.bytes 1 == all_known)
 
 -- the known bits of SDD_REQ, and the level of SEL_REQ
 abbrev pub known_bits : Signal → List Bool

@@ -1,6 +1,7 @@
 -- The crowd: the NFC-A devices of a field as a reader can tell them apart, and their order (ISO/IEC 14443-3; the order
 -- is this project's own).
-use Rattle.std.specs.Prelude.{◌≡◌, ◌≢◌, ◌⊎◌, ℕ, ◌<◌, ◌≤◌, List, [], ◌∷◌, ◌++◌, length, drop, filter, map, filter_map, Bool, true, false, if◌then◌else◌, Option, Some, None, Result, Ok, Err}
+use Rattle.std.specs.Prelude.{◌≡◌, ◌≢◌, ◌⊎◌, ℕ, ◌<◌, ◌≤◌, List, [], ◌∷◌, ◌++◌, length, drop, filter, map, filter_map}
+use Rattle.std.specs.Prelude.{Bool, true, false, if◌then◌else◌, Option, Some, None, Result, Ok, Err}
 use Rattle.nfc_base.specs.declared.frame.Tech.TheVariants.{A}
 use Rattle.nfc_base.specs.Signal.{Signal}
 use Rattle.nfc_base.specs.Bits.{bits_of}
@@ -12,7 +13,8 @@ use Rattle.air_core.specs.Turn.{Air}
 use Rattle.nfca_poll.specs.declared.kind.Kind.{Kind}
 use Rattle.nfca_poll.specs.declared.fault.Picked.{Picked}
 use Rattle.nfca_poll.specs.declared.fault.PollFault.{PollFault}
-use Rattle.nfca_poll.specs.declared.fault.PollFault.TheVariants.{Nobody, Disturbed, FieldLost, Memory, NotFound, BadAnswer}
+use Rattle.nfca_poll.specs.declared.fault.PollFault.TheVariants.{Nobody, Disturbed, FieldLost, Memory, NotFound}
+use Rattle.nfca_poll.specs.declared.fault.PollFault.TheVariants.{BadAnswer}
 use Rattle.nfca_poll.specs.Ident.{IsIdent}
 use Rattle.nfca_poll.specs.Levels.{levels}
 use Rattle.nfca_poll.specs.Calls.{call_of}
@@ -67,7 +69,8 @@ is_rest (Active starred) = false
 
 -- What an NFC-A listener of this project does at a frame, unless it is active: it hands nothing over, and its front
 -- steps by the table.
-pub record StepsByFront {L : Type 0} (m : Machine L) (identifier : L → List ℕ) (kind : L → Kind) (front : L → Front) (l : L) (f : Signal) : Type 0 where
+pub record StepsByFront {L : Type 0} (m : Machine L) (identifier : L → List ℕ) (kind : L → Kind) (front : L → Front)
+    (l : L) (f : Signal) : Type 0 where
   pub untouched : m.handed l f ≡ Untouched
   pub says : m.answer l f None ≡ front_says (levels (identifier l)) (kind l) (front l) (call_of f)
   pub goes : front (m.after l f None) ≡ front_next (levels (identifier l)) (front l) (call_of f)
@@ -79,7 +82,8 @@ pub record StepsByFront {L : Type 0} (m : Machine L) (identifier : L → List �
 pub record AreOurs {L : Type 0} (m : Machine L) (identifier : L → List ℕ) : Type 0 where
   pub kind : L → Kind
   pub front : L → Front
-  pub steps : (l : L) (f : Signal) → m.tech l ≡ A → is_active (front l) ≡ false → StepsByFront m identifier kind front l f
+  pub steps : (l : L) (f : Signal) → m.tech l ≡ A → is_active (front l) ≡ false
+      → StepsByFront m identifier kind front l f
 
 module _ {L : Type 0} {m : Machine L} {identifier : L → List ℕ} (ours : AreOurs m identifier) where
   abbrev pub card_of : L → Card
@@ -132,8 +136,8 @@ abbrev pub left_by : Result Picked PollFault → List Card → List Card
 left_by (Ok p) w = with_active p.id w
 left_by (Err f) w = w
 
--- How a resolution ends among devices at rest, which are v afterwards, by how many of its transmissions had noise: it picks the
--- first that is idle, and nobody where none is; it misses that one only by noise, and it hears no bad answer.
+-- How a resolution ends among devices at rest, which are v afterwards, by how many of its transmissions had noise: it
+-- picks the first that is idle, and nobody where none is; it misses that one only by noise, and it hears no bad answer.
 abbrev pub EndsByFirst : List Card → Result Picked PollFault → List Card → ℕ → Type 0
 EndsByFirst w (Ok p) v n = (first_idle w ≡ Ok p) × (v ≡ with_active p.id w)
 EndsByFirst w (Err Nobody) v n = ((first_idle w ≡ Err Nobody) × (v ≡ w)) ⊎ (2 ≤ n)
@@ -148,9 +152,11 @@ module _ {L : Type 0} {m : Machine L} {identifier : L → List ℕ} (ours : AreO
   abbrev pub PicksFirst : Air L → Result Picked PollFault → Air L → Type 0
   PicksFirst old r new =
       IsCrowd (cards ours old.listeners) → noise (drop (length old.trace) new.trace) ≡ 0
-      → (r ≡ Err Memory) ⊎ ((r ≡ first_idle (cards ours old.listeners)) × (cards ours new.listeners ≡ left_by r (cards ours old.listeners)))
+      → (r ≡ Err Memory) ⊎ ((r ≡ first_idle (cards ours old.listeners))
+      × (cards ours new.listeners ≡ left_by r (cards ours old.listeners)))
 
   -- whatever noise it meets
   abbrev pub PicksFromRest : Air L → Result Picked PollFault → Air L → Type 0
   PicksFromRest old r new =
-      IsCrowd (cards ours old.listeners) → EndsByFirst (cards ours old.listeners) r (cards ours new.listeners) (noise (drop (length old.trace) new.trace))
+      IsCrowd (cards ours old.listeners) → EndsByFirst (cards ours old.listeners) r (cards ours new.listeners)
+      (noise (drop (length old.trace) new.trace))

@@ -10,8 +10,8 @@ use Rattle.nfca_poll.specs.declared.fault.PollFault.{PollFault}
 use Rattle.nfca_poll.specs.declared.fault.PollFault.TheVariants.{FieldLost, Memory}
 use Rattle.nfca_poll.specs.Muted.{mute_air}
 
--- Where an enquiry begins, what a reset makes of it, how it goes on by what is heard, which request or reset is due, and
--- what it answers where it is over.
+-- Where an enquiry begins, what a reset makes of it, how it goes on by what is heard, which request or reset is due,
+-- and what it answers where it is over.
 pub record Enquiry (S X : Type 0) : Type 0 where
   pub start : S
   pub light : S → S

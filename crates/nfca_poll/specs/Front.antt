@@ -1,6 +1,7 @@
 -- The listener front of an NFC-A device: how it answers the calls of a reader until it is selected (NFC Forum Digital
 -- Protocol; ISO/IEC 14443-3). The SENS_RES values and where each other frame leads are this project's own.
-use Rattle.std.specs.Prelude.{ℕ, ◌+◌, ◌-◌, List, [], ◌∷◌, length, drop, slice_index_or, Bool, true, false, ◌==◌, ◌&&◌, nat_eq, nat_lt, if◌then◌else◌, Option, Some, None}
+use Rattle.std.specs.Prelude.{ℕ, ◌+◌, ◌-◌, List, [], ◌∷◌, length, drop, slice_index_or, Bool, true, false, ◌==◌, ◌&&◌}
+use Rattle.std.specs.Prelude.{nat_eq, nat_lt, if◌then◌else◌, Option, Some, None}
 use Rattle.std.specs.Cmp.Lexicographic.{pointwise}
 use Rattle.nfc_base.specs.declared.frame.Tech.TheVariants.{A}
 use Rattle.nfc_base.specs.Signal.{Signal, whole_a}
@@ -79,8 +80,10 @@ front_next ls Sleep Other = Sleep
 front_next ls (Ready k starred) (Calls Sens) = home starred
 front_next ls (Ready k starred) (Calls All) = home starred
 front_next ls (Ready k starred) (Calls Slp) = home starred
-front_next ls (Ready k starred) (Calls (Sdd level known)) = if is_asked ls k level known then Ready k starred else home starred
-front_next ls (Ready k starred) (Calls (Sel level bytes)) = if is_taken ls k level bytes then taken ls k starred else home starred
+front_next ls (Ready k starred) (Calls (Sdd level known)) =
+    if is_asked ls k level known then Ready k starred else home starred
+front_next ls (Ready k starred) (Calls (Sel level bytes)) =
+    if is_taken ls k level bytes then taken ls k starred else home starred
 front_next ls (Ready k starred) Other = home starred
 front_next ls (Active starred) (Calls Sens) = home starred
 front_next ls (Active starred) (Calls All) = home starred
@@ -109,7 +112,8 @@ front_says ls kind (Ready k starred) (Calls All) = None
 front_says ls kind (Ready k starred) (Calls Slp) = None
 front_says ls kind (Ready k starred) (Calls (Sdd level known)) =
     if is_asked ls k level known then Some (of_bits A (drop (length known) (bits_of (level_at ls k)))) else None
-front_says ls kind (Ready k starred) (Calls (Sel level bytes)) = if is_taken ls k level bytes then Some (taken_answer ls kind k) else None
+front_says ls kind (Ready k starred) (Calls (Sel level bytes)) =
+    if is_taken ls k level bytes then Some (taken_answer ls kind k) else None
 front_says ls kind (Ready k starred) Other = None
 front_says ls kind (Active starred) f = None
 

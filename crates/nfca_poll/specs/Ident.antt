@@ -15,7 +15,8 @@ IsIdentLength n = (n ≡ 4) ⊎ ((n ≡ 7) ⊎ (n ≡ 10))
 
 -- the last level, of one or two, begins with CT
 abbrev pub IsBadCascade : List ℕ → Type 0
-IsBadCascade bytes = ((length bytes ≡ 4) × (slice_index bytes 0 ≡ cascade_tag)) ⊎ ((length bytes ≡ 7) × (slice_index bytes 3 ≡ cascade_tag))
+IsBadCascade bytes = ((length bytes ≡ 4) × (slice_index bytes 0 ≡ cascade_tag))
+    ⊎ ((length bytes ≡ 7) × (slice_index bytes 3 ≡ cascade_tag))
 
 -- these bytes are an identifier
 pub record IsIdent (id : List ℕ) : Type 0 where

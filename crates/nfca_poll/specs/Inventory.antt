@@ -1,6 +1,7 @@
 -- Finding NFC-V devices: inventory of one slot (NFC Forum Digital Protocol; ISO/IEC 15693-3). Four tries are this
 -- project's own.
-use Rattle.std.specs.Prelude.{◌≡◌, ◌⊎◌, ◌≤◌, ℕ, zero, suc, ◌+◌, List, [], ◌∷◌, length, drop, reverse, Bool, true, false, ◌==◌, ◌&&◌, nat_lt, if◌then◌else◌, Option, Some, None, Result, Ok, Err}
+use Rattle.std.specs.Prelude.{◌≡◌, ◌⊎◌, ◌≤◌, ℕ, zero, suc, ◌+◌, List, [], ◌∷◌, length, drop, reverse, Bool, true, false}
+use Rattle.std.specs.Prelude.{◌==◌, ◌&&◌, nat_lt, if◌then◌else◌, Option, Some, None, Result, Ok, Err}
 use Rattle.nfc_base.specs.Signal.{Signal, whole_v}
 use Rattle.nfc_base.specs.declared.event.Heard.{Heard}
 use Rattle.nfc_base.specs.declared.event.Heard.TheVariants.{Whole, Collided, Damaged, Silent}
@@ -39,8 +40,8 @@ pub data Inventory (X : Type 0) : Type 0 where
   Tries : ℕ → Bool → Inventory X
   Told : Result X PollFault → Inventory X
 
--- A question which devices of a technology are there: its request, which whole answers are an answer to it, and what is told:
--- of one that answers so, where nobody does, and where several do.
+-- A question which devices of a technology are there: its request, which whole answers are an answer to it, and what is
+-- told: of one that answers so, where nobody does, and where several do.
 pub record Presence (X : Type 0) : Type 0 where
   pub request : Signal
   pub shows : Signal → Bool
@@ -57,12 +58,19 @@ presence_step p (Tries n damaged) Silent = Tries (n + 1) damaged
 presence_step p (Told r) h = Told r
 
 abbrev pub presence_ended : {X : Type 0} → Presence X → Inventory X → Option (Result X PollFault)
-presence_ended p (Tries n damaged) = if nat_lt n tries then None else Some (if damaged then Err faults.Disturbed else Ok p.nobody)
+presence_ended p (Tries n damaged) = if nat_lt n tries then None
+    else Some (if damaged then Err faults.Disturbed else Ok p.nobody)
 presence_ended p (Told r) = Some r
 
 -- Inventory of one device at most.
 abbrev pub all_present : Presence Vcrowd
-all_present = record { request = inventory_all; shows = is_present; one = λ g. One (answered_id g); nobody = Nobody; crowd = Crowd }
+all_present = record {
+  request = inventory_all;
+  shows = is_present;
+  one = λ g. One (answered_id g);
+  nobody = Nobody;
+  crowd = Crowd;
+}
 
 abbrev pub one_step : Inventory Vcrowd → Heard → Inventory Vcrowd
 one_step s h = presence_step all_present s h
@@ -88,23 +96,37 @@ asks_for f (Tries n damaged) = if nat_lt n tries then Asks f else Over
 asks_for f (Told r) = Over
 
 abbrev pub asking_presence : {X : Type 0} → Presence X → Enquiry (Inventory X) X
-asking_presence p = record { start = Tries 0 false; light = λ s. s; step = presence_step p; next = asks_for p.request; ended = presence_ended p }
+asking_presence p = record {
+  start = Tries 0 false;
+  light = λ s. s;
+  step = presence_step p;
+  next = asks_for p.request;
+  ended = presence_ended p;
+}
 
 abbrev pub inventory : Enquiry (Inventory Vcrowd) Vcrowd
 inventory = asking_presence all_present
 
 abbrev pub picking_v : List ℕ → Enquiry (Inventory (Unit {0})) (Unit {0})
-picking_v id = record { start = Tries 0 false; light = λ s. s; step = pick_step; next = asks_for (inventory_of id); ended = pick_ended }
+picking_v id = record {
+  start = Tries 0 false;
+  light = λ s. s;
+  step = pick_step;
+  next = asks_for (inventory_of id);
+  ended = pick_ended;
+}
 
 -- a listener that has heard a frame so many times in a row, where no far end replies
 abbrev pub heard_again : {L : Type 0} → Machine L → Signal → L → ℕ → L
 heard_again m f l zero = l
 heard_again m f l (suc n) = stepped_by m (heard_again m f l n) f None
 
--- A listener of a request's technology that hands nothing over at it, and answers the same however often it hears it in a row.
+-- A listener of a request's technology that hands nothing over at it, and answers the same however often it hears it in
+-- a row.
 abbrev pub IsSteady : {L : Type 0} → Machine L → Signal → L → Type 0
 IsSteady m f l =
-    m.tech l ≡ f.tech → (n : ℕ) → (hands_over m (heard_again m f l n) f ≡ Untouched) × (answered_by m (heard_again m f l n) f None ≡ answered_by m l f None)
+    m.tech l ≡ f.tech → (n : ℕ) → (hands_over m (heard_again m f l n) f ≡ Untouched)
+    × (answered_by m (heard_again m f l n) f None ≡ answered_by m l f None)
 
 -- nobody answers this request
 abbrev pub NoneAnswers : {L : Type 0} → Machine L → Signal → List L → Type 0
@@ -121,9 +143,11 @@ AnswersWell m f l = AnswersBy is_present m f l
 abbrev pub IsMissed : {L : Type 0} → Machine L → Signal → Air L → Air L → Type 0
 IsMissed m f old new = NoneAnswers m f old.listeners ⊎ (tries ≤ noise (drop (length old.trace) new.trace))
 
--- Why such a question over steady listeners tells something else than one device or several: it is disturbed only where each of
--- its tries met noise, finds nobody only where nobody answers or each did, and meets no bad answer where each answers well.
-pub record HasCausePresence {X : Type 0} (p : Presence X) {L : Type 0} (m : Machine L) (old : Air L) (r : Result X PollFault) (new : Air L) : Type 0 where
+-- Why such a question over steady listeners tells something else than one device or several: it is disturbed only where
+-- each of its tries met noise, finds nobody only where nobody answers or each did, and meets no bad answer where each
+-- answers well.
+pub record HasCausePresence {X : Type 0} (p : Presence X) {L : Type 0} (m : Machine L) (old : Air L)
+    (r : Result X PollFault) (new : Air L) : Type 0 where
   pub disturbed : r ≡ Err faults.Disturbed → tries ≤ noise (drop (length old.trace) new.trace)
   pub nobody : r ≡ Ok p.nobody → IsMissed m p.request old new
   pub bad : r ≡ Err faults.BadAnswer → Each (AnswersBy p.shows m p.request) old.listeners → ⊥
@@ -131,8 +155,10 @@ pub record HasCausePresence {X : Type 0} (p : Presence X) {L : Type 0} (m : Mach
 abbrev pub HasCauseV : {L : Type 0} → Machine L → Air L → Result Vcrowd PollFault → Air L → Type 0
 HasCauseV m old r new = HasCausePresence all_present m old r new
 
--- Selection by an identifier finds nothing only where nobody answers, or each of its tries met noise; and it meets no bad answer.
-pub record MissesV {L : Type 0} (m : Machine L) (id : List ℕ) (old : Air L) (r : Result (Unit {0}) PollFault) (new : Air L) : Type 0 where
+-- Selection by an identifier finds nothing only where nobody answers, or each of its tries met noise; and it meets no
+-- bad answer.
+pub record MissesV {L : Type 0} (m : Machine L) (id : List ℕ) (old : Air L) (r : Result (Unit {0}) PollFault)
+    (new : Air L) : Type 0 where
   pub not_found : r ≡ Err faults.NotFound → IsMissed m (inventory_of id) old new
   pub bad : r ≡ Err faults.BadAnswer → Each (AnswersWell m (inventory_of id)) old.listeners → ⊥
 

@@ -1,11 +1,13 @@
 -- The cascade levels of an NFC-A identifier (ISO/IEC 14443-3): one, two or three of five bytes each. The last level
 -- has four bytes of the identifier, each earlier one the cascade tag and three; the fifth byte is BCC, their XOR.
-use Rattle.std.specs.Prelude.{ℕ, List, [], ◌∷◌, ◌++◌, take, drop, length, slice_index, Bool, ◌==◌, if◌then◌else◌, bit_xor}
+use Rattle.std.specs.Prelude.{ℕ, List, [], ◌∷◌, ◌++◌, take, drop, length, slice_index, Bool, ◌==◌, if◌then◌else◌}
+use Rattle.std.specs.Prelude.{bit_xor}
 use Rattle.nfca_poll.specs.Ident.{cascade_tag}
 
 -- the check byte of four bytes
 abbrev pub bcc : List ℕ → ℕ
-bcc bytes = bit_xor (bit_xor (bit_xor (slice_index bytes 0) (slice_index bytes 1)) (slice_index bytes 2)) (slice_index bytes 3)
+bcc bytes = bit_xor (bit_xor (bit_xor (slice_index bytes 0) (slice_index bytes 1)) (slice_index bytes 2))
+    (slice_index bytes 3)
 
 -- a level: four bytes and their check byte
 abbrev pub level : List ℕ → List ℕ

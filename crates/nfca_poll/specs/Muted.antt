@@ -7,7 +7,8 @@ use Rattle.air_core.specs.World.{Machine, World, quiet_air}
 use Rattle.air_core.specs.Conversation.{AirModel, TurnsTo}
 use Rattle.air_core.specs.Turn.{Air, moment}
 use Rattle.nfca_poll.specs.declared.fault.PollFault.{PollFault}
-use Rattle.nfca_poll.specs.declared.fault.PollFault.TheVariants.{Nobody, Disturbed, FieldLost, Memory, NotFound, BadAnswer}
+use Rattle.nfca_poll.specs.declared.fault.PollFault.TheVariants.{Nobody, Disturbed, FieldLost, Memory, NotFound}
+use Rattle.nfca_poll.specs.declared.fault.PollFault.TheVariants.{BadAnswer}
 
 -- the reply of such a far end
 abbrev pub mute_reply : FarUse → Option (List ℕ)

@@ -1,7 +1,8 @@
 -- The numbers of the errors.
 use Rattle.std.specs.Prelude.{ℕ}
 use Rattle.nfca_poll.specs.declared.fault.PollFault.{PollFault}
-use Rattle.nfca_poll.specs.declared.fault.PollFault.TheVariants.{Nobody, Disturbed, FieldLost, Memory, NotFound, BadAnswer}
+use Rattle.nfca_poll.specs.declared.fault.PollFault.TheVariants.{Nobody, Disturbed, FieldLost, Memory, NotFound}
+use Rattle.nfca_poll.specs.declared.fault.PollFault.TheVariants.{BadAnswer}
 
 abbrev pub poll_fault_number : PollFault → ℕ
 poll_fault_number Nobody = 1

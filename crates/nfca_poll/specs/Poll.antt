@@ -1,6 +1,7 @@
 -- One resolution of NFC-A: what a reader asks next, by what it heard (NFC Forum Digital Protocol; ISO/IEC 14443-3). The
 -- choice of bit 1 at a collision and four presence requests are this project's own.
-use Rattle.std.specs.Prelude.{ℕ, ◌+◌, List, [], ◌∷◌, ◌++◌, length, slice_index, Bool, true, ◌==◌, ◌&&◌, nat_lt, nat_le, bit_and, if◌then◌else◌}
+use Rattle.std.specs.Prelude.{ℕ, ◌+◌, List, [], ◌∷◌, ◌++◌, length, slice_index, Bool, true, ◌==◌, ◌&&◌, nat_lt, nat_le}
+use Rattle.std.specs.Prelude.{bit_and, if◌then◌else◌}
 use Rattle.nfc_base.specs.Signal.{Signal}
 use Rattle.nfc_base.specs.Bits.{bits, packed}
 use Rattle.nfc_base.specs.declared.event.Heard.{Heard}
@@ -75,7 +76,8 @@ seek_step (Asking done known) (Whole g) = completed done (known ++ bits g)
 seek_step (Asking done known) (Collided g) = narrowed done (known ++ bits g)
 seek_step (Asking done known) Damaged = Ended Disturbed
 seek_step (Asking done known) Silent = Ended Disturbed
-seek_step (Selecting done l) (Whole g) = if is_one_byte g then selected done l (slice_index g.bytes 0) else Ended BadAnswer
+seek_step (Selecting done l) (Whole g) = if is_one_byte g then selected done l (slice_index g.bytes 0)
+    else Ended BadAnswer
 seek_step (Selecting done l) (Collided g) = Ended BadAnswer
 seek_step (Selecting done l) Damaged = Ended Disturbed
 seek_step (Selecting done l) Silent = Ended Disturbed

@@ -9,7 +9,8 @@ use Rattle.nfca_poll.specs.Crowd.{AreOurs, PicksFirst, PicksFromRest}
 use Rattle.nfca_poll.specs.AnyStart.{PicksFromAny, PicksAlone}
 use Rattle.nfca_poll.specs.Polled.{ArePolled}
 
-module _ {L : Type 0} (m : Machine L) (identifier : L → List ℕ) (old : Air L) (r : Result Picked PollFault) (new : Air L) where
+module _ {L : Type 0} (m : Machine L) (identifier : L → List ℕ) (old : Air L) (r : Result Picked PollFault)
+    (new : Air L) where
   -- where none is ready or active, without noise, and with any
   abbrev pub ResolvesFirst : Type 0
   ResolvesFirst = old.lit ≡ true → (ours : AreOurs m identifier) → PicksFirst ours old r new

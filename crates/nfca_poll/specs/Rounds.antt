@@ -1,6 +1,7 @@
--- Polling by rounds: what a reader asks who finds all NFC-A devices, or selects one of them by its identifier (NFC Forum
--- Digital Protocol; ISO/IEC 14443-3). Rounds and their number are this project's own.
-use Rattle.std.specs.Prelude.{◌≡◌, ℕ, ◌+◌, List, [], ◌∷◌, ◌++◌, length, Bool, true, nat_eq, nat_lt, if◌then◌else◌, Option, Some, None, Result, Ok, Err, Vec}
+-- Polling by rounds: what a reader asks who finds all NFC-A devices, or selects one of them by its identifier (NFC
+-- Forum Digital Protocol; ISO/IEC 14443-3). Rounds and their number are this project's own.
+use Rattle.std.specs.Prelude.{◌≡◌, ℕ, ◌+◌, List, [], ◌∷◌, ◌++◌, length, Bool, true, nat_eq, nat_lt, if◌then◌else◌}
+use Rattle.std.specs.Prelude.{Option, Some, None, Result, Ok, Err, Vec}
 use Rattle.std.specs.List.{list_any}
 use Rattle.std.specs.Cmp.Lexicographic.{pointwise}
 use Rattle.nfc_base.specs.declared.event.Heard.{Heard}
@@ -12,7 +13,8 @@ use Rattle.nfca_poll.specs.declared.fault.PollFault.{PollFault}
 use Rattle.nfca_poll.specs.declared.fault.PollFault.TheVariants as faults
 use Rattle.nfca_poll.specs.Levels.{identifier}
 use Rattle.nfca_poll.specs.Calls.{Slp, call_frame}
-use Rattle.nfca_poll.specs.Poll.{Seek, Calling, Asking, Selecting, Ended, Nobody, Disturbed, BadAnswer, Found, seek_step, seek_next}
+use Rattle.nfca_poll.specs.Poll.{Seek, Calling, Asking, Selecting, Ended, Nobody, Disturbed, BadAnswer, Found}
+use Rattle.nfca_poll.specs.Poll.{seek_step, seek_next}
 use Rattle.nfca_poll.specs.Enquiry.{Enquiry}
 
 -- how many rounds a call makes, and how many devices a round finds
@@ -22,14 +24,14 @@ most_rounds = 4
 abbrev pub most_found : ℕ
 most_found = 256
 
--- What a call is after: whether it ends with a device that is selected, and what it answers once nobody else is there, by
--- the devices found in the round.
+-- What a call is after: whether it ends with a device that is selected, and what it answers once nobody else is there,
+-- by the devices found in the round.
 pub record Aim (X : Type 0) : Type 0 where
   pub takes : Picked → Option X
   pub nobody : List Picked → Result X PollFault
 
--- How far a call is: a reset is due for this round; a resolution, with the devices that this round found, in order; SLP_REQ
--- is due; it is over. Rounds count from 1.
+-- How far a call is: a reset is due for this round; a resolution, with the devices that this round found, in order;
+-- SLP_REQ is due; it is over. Rounds count from 1.
 pub data Search (X : Type 0) : Type 0 where
   Begins : ℕ → Search X
   Seeks : ℕ → List Picked → Seek → Search X
@@ -45,8 +47,8 @@ has_found found id = list_any (λ p. is_same p.id id) found
 
 -- What a round does, for an aim and what becomes of a round that is disturbed.
 module _ {X : Type 0} (aim : Aim X) (given_up : ℕ → Search X) where
-  -- A device that isn't the one the call is after: where it was found before in this round, the round is disturbed; else it
-  -- is put to sleep.
+  -- A device that isn't the one the call is after: where it was found before in this round, the round is disturbed;
+  -- else it is put to sleep.
   abbrev pub met : ℕ → List Picked → Picked → Search X
   met round found p =
       if has_found found p.id then given_up round
@@ -118,7 +120,10 @@ all_devices = record { takes = λ p. None; nobody = λ found. Ok found }
 
 -- the device with this identifier
 abbrev pub device_of : List ℕ → Aim Kind
-device_of id = record { takes = λ p. if is_same p.id id then Some p.kind else None; nobody = λ found. Err faults.NotFound }
+device_of id = record {
+  takes = λ p. if is_same p.id id then Some p.kind else None;
+  nobody = λ found. Err faults.NotFound;
+}
 
 abbrev pub finding : Enquiry (Search (List Picked)) (List Picked)
 finding = searching all_devices

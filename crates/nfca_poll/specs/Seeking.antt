@@ -12,7 +12,8 @@ use Rattle.nfca_poll.specs.declared.seeking.SeekStep.{SeekStep}
 use Rattle.nfca_poll.specs.declared.seeking.SeekStep.TheVariants.{Goes, Ends}
 use Rattle.nfca_poll.specs.Levels.{identifier}
 use Rattle.nfca_poll.specs.Calls.{Sens, Sdd, Sel, call_frame}
-use Rattle.nfca_poll.specs.Poll.{Seek, Calling, Asking, Selecting, Ended, Outcome, Nobody, Disturbed, BadAnswer, Found, seek_step, seek_next}
+use Rattle.nfca_poll.specs.Poll.{Seek, Calling, Asking, Selecting, Ended, Outcome, Nobody, Disturbed, BadAnswer, Found}
+use Rattle.nfca_poll.specs.Poll.{seek_step, seek_next}
 use Rattle.nfca_poll.specs.Enquiry.{Enquiry}
 
 -- what a resolution that is over answers

@@ -1,6 +1,7 @@
--- Which identifiers were selected in a round of polling, by its turns, and why a round is given up (NFC Forum Digital Protocol; ISO/IEC
--- 14443-3; rounds and their number are this project's own).
-use Rattle.std.specs.Prelude.{◌≡◌, ◌⊎◌, ℕ, ◌-◌, List, [], ◌∷◌, ◌++◌, take, length, slice_index, Bool, true, false, not, ◌&&◌, Option}
+-- Which identifiers were selected in a round of polling, by its turns, and why a round is given up (NFC Forum Digital
+-- Protocol; ISO/IEC 14443-3; rounds and their number are this project's own).
+use Rattle.std.specs.Prelude.{◌≡◌, ◌⊎◌, ℕ, ◌-◌, List, [], ◌∷◌, ◌++◌, take, length, slice_index, Bool, true, false, not}
+use Rattle.std.specs.Prelude.{◌&&◌, Option}
 use Rattle.std.specs.List.{list_any}
 use Rattle.nfc_base.specs.Trace.{Turn, turns, heard, by_heard}
 use Rattle.nfc_base.specs.declared.event.Event.{Event}

@@ -1,5 +1,5 @@
--- The machine above a listener front, which takes the frames of a selected device, and which frames are its own (NFC Forum
--- Digital Protocol; NFC Forum Type 2 Tag).
+-- The machine above a listener front, which takes the frames of a selected device, and which frames are its own (NFC
+-- Forum Digital Protocol; NFC Forum Type 2 Tag).
 use Rattle.std.specs.Prelude.{◌≡◌, ℕ, ◌≤◌, List, length, Bool, true, false, ◌||◌, Option, Some, None}
 use Rattle.nfc_base.specs.declared.frame.Tech.TheVariants.{A}
 use Rattle.nfc_base.specs.Signal.{Signal}
@@ -24,7 +24,9 @@ pub record UpperMachine (U : Type 0) : Type 0 where
   pub cleared : U → U
 
 -- The far end did what was asked of it. What the machine says, and what it is after, are these functions of the reply.
-pub record UpperStep {U A : Type 0} (restarts : A → List ℕ → A → Type 0) (steps : A → List ℕ → List ℕ → A → Type 0) (asked : FarUse) (tells : Option (List ℕ) → UpStep) (leaves : Option (List ℕ) → U) (old : A) (step : UpStep) (after : U) (new : A) : Type 0 where
+pub record UpperStep {U A : Type 0} (restarts : A → List ℕ → A → Type 0) (steps : A → List ℕ → List ℕ → A → Type 0)
+    (asked : FarUse) (tells : Option (List ℕ) → UpStep) (leaves : Option (List ℕ) → U) (old : A) (step : UpStep)
+    (after : U) (new : A) : Type 0 where
   pub reply : Option (List ℕ)
   pub far : FarDid restarts steps asked old reply new
   pub says : step ≡ tells reply
@@ -61,7 +63,8 @@ is_own T4 is_open attributes f = is_open || is_rats f
 is_own Peer is_open attributes f = is_open || attributes
 
 -- What no frame changes of a machine: its kind, and of a tag its step on commands.
-pub record StaysOneKind {U : Type 0} (kind : U → Kind) (commands : U → TagState → Signal → TagStep) (old new : U) : Type 0 where
+pub record StaysOneKind {U : Type 0} (kind : U → Kind) (commands : U → TagState → Signal → TagStep) (old new : U)
+    : Type 0 where
   pub same_kind : kind new ≡ kind old
   pub same_commands : commands new ≡ commands old
 
@@ -69,15 +72,19 @@ pub record StaysOneKind {U : Type 0} (kind : U → Kind) (commands : U → TagSt
 pub record IsUpper {U : Type 0} (m : UpperMachine U) (store : U → List ℕ) (commands : U → TagState → Signal → TagStep)
     (is_open : U → Bool) (attributes : Signal → Bool) : Type 0 where
   -- the frames that it takes are its own, and all of them
-  pub takes : (u : U) (f : Signal) (reply : Option (List ℕ)) → is_taken (m.says u f reply) ≡ is_own (m.kind u) (is_open u) (attributes f) f
+  pub takes : (u : U) (f : Signal) (reply : Option (List ℕ))
+      → is_taken (m.says u f reply) ≡ is_own (m.kind u) (is_open u) (attributes f) f
   -- a frame that isn't asks nothing of the far end, and changes nothing
-  pub foreign : (u : U) (f : Signal) (reply : Option (List ℕ)) → m.says u f reply ≡ steps.Foreign → (m.handed u f ≡ Untouched) × (m.after u f reply ≡ u)
+  pub foreign : (u : U) (f : Signal) (reply : Option (List ℕ)) → m.says u f reply ≡ steps.Foreign
+      → (m.handed u f ≡ Untouched) × (m.after u f reply ≡ u)
   -- one that is opens the link, if it has none; what is volatile takes the link with it
-  pub opens : (u : U) (f : Signal) (reply : Option (List ℕ)) → (m.kind u ≡ T2 → ⊥) → is_taken (m.says u f reply) ≡ true → is_open (m.after u f reply) ≡ true
+  pub opens : (u : U) (f : Signal) (reply : Option (List ℕ)) → (m.kind u ≡ T2 → ⊥) → is_taken (m.says u f reply) ≡ true
+      → is_open (m.after u f reply) ≡ true
   pub closes : (u : U) → is_open (m.cleared u) ≡ false
   -- a call by which a reader polls is no ATR_REQ, and an open link hears it in silence
   pub no_call : (f : Signal) (c : Call) → call_of f ≡ Calls c → attributes f ≡ false
-  pub silent : (u : U) (f : Signal) (c : Call) → is_open u ≡ true → call_of f ≡ Calls c → (m.handed u f ≡ Untouched) × (m.says u f None ≡ steps.Quiet)
+  pub silent : (u : U) (f : Signal) (c : Call) → is_open u ≡ true → call_of f ≡ Calls c
+      → (m.handed u f ≡ Untouched) × (m.says u f None ≡ steps.Quiet)
   -- where a payload was handed over and no reply came, it says nothing
   pub waits : (u : U) (f : Signal) (payload : List ℕ) → m.handed u f ≡ Hands payload → m.says u f None ≡ steps.Quiet
   pub bounded : (u : U) (f : Signal) (payload : List ℕ) → m.handed u f ≡ Hands payload → length payload ≤ 2178

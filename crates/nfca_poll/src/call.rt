@@ -1,7 +1,8 @@
 //! The requests by which a reader finds and selects devices.
 
 ghost use Rattle.std.specs.Prelude.{◌≡◌, ◌↔◌, ◌⊎◌, slice_index, IsTrue};
-ghost use Rattle.nfca_poll.specs.Calls.{Calls, Sens, All, is_short, is_slp, is_sel_cmd, is_sdd_par, is_sdd, is_sel, cmd_level, call_of};
+ghost use Rattle.nfca_poll.specs.Calls.{Calls, Sens, All, is_short, is_slp, is_sel_cmd, is_sdd_par, is_sdd, is_sel};
+ghost use Rattle.nfca_poll.specs.Calls.{cmd_level, call_of};
 ghost use Rattle.nfca_poll.specs.Kinds.{reading_by, HasForm};
 
 use air_core::bits::bit_len;

@@ -120,7 +120,8 @@ impl<U: Upper> Front<U> {
 impl<U: Upper> Listener for Front<U> {
     ghost use Rattle.nfca_poll.specs.Fronted.{fronts};
     ghost use Rattle.nfca_poll.specs.Front.{is_ready, is_active};
-    ghost use Rattle.nfca_poll.specs.laws.FrontLaws.{bounded, own_tech, step_keeps, light_keeps, dark_keeps, light_selects, stays_selected, dark_rests, at_rest, ignores};
+    ghost use Rattle.nfca_poll.specs.laws.FrontLaws.{bounded, own_tech, step_keeps, light_keeps, dark_keeps};
+    ghost use Rattle.nfca_poll.specs.laws.FrontLaws.{light_selects, stays_selected, dark_rests, at_rest, ignores};
 
     ghost machine = { fronts U.machine };
 

@@ -3,7 +3,8 @@
 ghost use Rattle.std.specs.Prelude.{◌≡◌, ◌↔◌, Bool, Err, IfSome, IsSome};
 ghost use Rattle.nfca_poll.specs.declared.fault.PollFault.TheVariants.{FieldLost};
 ghost use Rattle.nfca_poll.specs.Enquiry.{Enquires, LosesByBreak};
-ghost use Rattle.nfca_poll.specs.Inventory.{inventory_all, inventory_of, inventory, picking_v, is_present, answered_id, TellsWhy, TellsMiss};
+ghost use Rattle.nfca_poll.specs.Inventory.{inventory_all, inventory_of, inventory, picking_v, is_present, answered_id};
+ghost use Rattle.nfca_poll.specs.Inventory.{TellsWhy, TellsMiss};
 ghost use Rattle.nfca_poll.specs.ByHeard.{turns_since, TellsInventory, TellsPickedV};
 
 use crate::fault::PollFault;

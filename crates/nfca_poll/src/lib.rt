@@ -2,9 +2,9 @@
 //! devices in its field (ISO/IEC 14443-3; NFC Forum Digital Protocol); beside it inventory of NFC-V (ISO/IEC 15693-3).
 //!
 //! Of a listener: `ident` has its identifier, `level` a cascade level of it, `kind` what it is, `call` reads a reader's
-//! requests, and `front` answers them over the machine of `upper`. Of a reader: `requests` has the frames that it sends,
-//! `known` the bits of a level that it knows, `seeking` how a resolution goes on by what is heard, `resolution` makes one in
-//! a field, and `rounds` finds all devices or selects one; `inventory` has the two calls for NFC-V.
+//! requests, and `front` answers them over the machine of `upper`. Of a reader: `requests` has the frames that it
+//! sends, `known` the bits of a level that it knows, `seeking` how a resolution goes on by what is heard, `resolution`
+//! makes one in a field, and `rounds` finds all devices or selects one; `inventory` has the two calls for NFC-V.
 #![tactic(auto)]
 
 mod call;

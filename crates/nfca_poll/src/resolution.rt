@@ -13,10 +13,11 @@ use crate::requests::ask;
 use crate::seeking::{SeekStep, Seeking};
 use air_core::{Field, Listener};
 
-/// Finds and selects one device: asks for presence, then level by level for the bits of its identifier, with bit 1 where
-/// answers differ (NFC Forum Digital Protocol; the choice of 1 and four presence requests are this project's own).
-/// It takes a lit field; in the dark it asks nothing. Over this project's listeners, where none is ready or active and no
-/// noise is met, it picks the first of the crowd that is idle. From any other start it picks one of them, or has its cause.
+/// Finds and selects one device: asks for presence, then level by level for the bits of its identifier, with bit 1
+/// where answers differ (NFC Forum Digital Protocol; the choice of 1 and four presence requests are this project's
+/// own). It takes a lit field; in the dark it asks nothing. Over this project's listeners, where none is ready or
+/// active and no noise is met, it picks the first of the crowd that is idle. From any other start it picks one of them,
+/// or has its cause.
 pub fn resolve<L: Listener>(field: &mut Field<L>) -> Result<Picked, PollFault>
     ensures dark { field.old.lit ≡ Bool.false → (result ≡ Err FieldLost) × (field.new ≡ field.old) }
     ensures lit { (result ≡ Err FieldLost) ⊎ (field.new.lit ≡ Bool.true) }

@@ -85,8 +85,8 @@ impl Found {
     }
 }
 
-/// How a round ends: nobody else is there, and these devices were found; the wanted one is selected; the round is disturbed,
-/// and given up.
+/// How a round ends: nobody else is there, and these devices were found; the wanted one is selected; the round is
+/// disturbed, and given up.
 #[derive(Debug, Drop)]
 pub enum RoundEnd {
     Nobody(Found),
@@ -104,8 +104,8 @@ fn is_wanted(device: &Picked, wanted: Option<&Ident>) -> bool
     }
 }
 
-/// One round: a reset, then one resolution after another. Each device but the wanted one is put to sleep; whether SLP_REQ is
-/// heard can't be told. A device that is found a second time shows that it wasn't.
+/// One round: a reset, then one resolution after another. Each device but the wanted one is put to sleep; whether
+/// SLP_REQ is heard can't be told. A device that is found a second time shows that it wasn't.
 fn round<L: Listener>(
     alloc: Global,
     field: &mut Field<L>,
@@ -138,8 +138,8 @@ fn round<L: Listener>(
     }
 }
 
-/// Finds all NFC-A devices of a field, in at most four rounds, each from a reset on: resolves one device after another and
-/// puts each to sleep, until nobody else is there. A round that is disturbed is given up.
+/// Finds all NFC-A devices of a field, in at most four rounds, each from a reset on: resolves one device after another
+/// and puts each to sleep, until nobody else is there. A round that is disturbed is given up.
 pub fn find_all<L: Listener>(alloc: Global, field: &mut Field<L>) -> Result<Vec<Picked>, PollFault>
     ensures turns { Enquires finding L.machine field.old (listed result) field.new }
     ensures told { TellsFound (turns_since field.old field.new) (listed result) }
@@ -159,8 +159,8 @@ pub fn find_all<L: Listener>(alloc: Global, field: &mut Field<L>) -> Result<Vec<
     Err(PollFault::Disturbed)
 }
 
-/// Selects the NFC-A device with this identifier, in at most four rounds, each from a reset on: the devices that are found
-/// before it are put to sleep, it itself is not.
+/// Selects the NFC-A device with this identifier, in at most four rounds, each from a reset on: the devices that are
+/// found before it are put to sleep, it itself is not.
 pub fn pick<L: Listener>(alloc: Global, field: &mut Field<L>, id: &Ident) -> Result<Kind, PollFault>
     ensures turns { Enquires (picking id.now) L.machine field.old result field.new }
     ensures told { TellsPicked (turns_since field.old field.new) result }

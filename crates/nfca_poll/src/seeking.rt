@@ -4,7 +4,8 @@ ghost use Rattle.std.specs.Prelude.{◌≡◌, ◌≤◌, ◌<◌, ◌+◌, ◌+
 ghost use Rattle.nfc_base.specs.Bits.{bits};
 ghost use Rattle.nfc_base.specs.declared.event.Heard.TheVariants as heards;
 ghost use Rattle.nfca_poll.specs.Levels.{identifier, cascades};
-ghost use Rattle.nfca_poll.specs.Poll.{Asking, Selecting, seek_step, completed, narrowed, selected, goes_on, kind_of, has_bit};
+ghost use Rattle.nfca_poll.specs.Poll.{Asking, Selecting, seek_step, completed, narrowed, selected, goes_on, kind_of};
+ghost use Rattle.nfca_poll.specs.Poll.{has_bit};
 ghost use Rattle.nfca_poll.specs.Seeking.{levels_of, seek_of, request_of, Becomes};
 
 use crate::fault::{Picked, PollFault};
@@ -92,8 +93,8 @@ impl Done {
     }
 }
 
-/// How far a resolution is: so many presence requests were silent; some levels are known, and some bits of the next one;
-/// the next one is known whole.
+/// How far a resolution is: so many presence requests were silent; some levels are known, and some bits of the next
+/// one; the next one is known whole.
 #[derive(Debug, Drop)]
 pub enum Seeking {
     Calling { silent: u8 },

@@ -33,12 +33,14 @@ ascending_with (i ∷ is) id h = by_number (nat_lt (id_number i) (id_number id))
     put [] h less rest = (less, tt)
     put (j ∷ js) h less rest = by_next (nat_lt (id_number j) (id_number id)) (nat_eq (id_number j) (id_number id)) rest
       where
-        by_next : (v w : Bool) → IsAscending (if v then j ∷ with_id js id else if w then j ∷ js else id ∷ j ∷ js) → IsAscending (i ∷ (if v then j ∷ with_id js id else if w then j ∷ js else id ∷ j ∷ js))
+        by_next : (v w : Bool) → IsAscending (if v then j ∷ with_id js id else if w then j ∷ js else id ∷ j ∷ js)
+            → IsAscending (i ∷ (if v then j ∷ with_id js id else if w then j ∷ js else id ∷ j ∷ js))
         by_next true w k = (h.0, k)
         by_next false true k = (h.0, k)
         by_next false false k = (less, k)
 
-    by_number : (v w : Bool) → nat_lt (id_number i) (id_number id) ≡ v → nat_eq (id_number i) (id_number id) ≡ w → IsAscending (with_id is id) → IsAscending (if v then i ∷ with_id is id else if w then i ∷ is else id ∷ i ∷ is)
+    by_number : (v w : Bool) → nat_lt (id_number i) (id_number id) ≡ v → nat_eq (id_number i) (id_number id) ≡ w → IsAscending (with_id is id)
+        → IsAscending (if v then i ∷ with_id is id else if w then i ∷ is else id ∷ i ∷ is)
     by_number true w e d rest = put is h (less_of (id_number i) (id_number id) e) rest
     by_number false true e d rest = h
     by_number false false e d rest = (more_of (id_number i) (id_number id) e d, h)

@@ -1,5 +1,6 @@
 -- Why a search ends without its tags: it follows from what was heard of its turns.
-use Rattle.std.proofs.Common.{◌≡◌, ◌⊎◌, inl, inr, ◌<◌, ◌≤◌, ℕ, ◌+◌, List, [], ◌∷◌, ◌++◌, length, reverse, Bool, true, false, not, nat_eq, nat_lt, nat_le, ◌&&◌, ◌||◌, if◌then◌else◌, Option, Some, None, Result, Ok, Err, refl, sym, ◌∙◌, ap, subst, arith}
+use Rattle.std.proofs.Common.{◌≡◌, ◌⊎◌, inl, inr, ◌<◌, ◌≤◌, ℕ, ◌+◌, List, [], ◌∷◌, ◌++◌, length, reverse, Bool, true, false, not, nat_eq, nat_lt, nat_le, ◌&&◌, ◌||◌, if◌then◌else◌, Option, Some, None}
+use Rattle.std.proofs.Common.{Result, Ok, Err, refl, sym, ◌∙◌, ap, subst, arith}
 use Rattle.std.specs.List.{list_any}
 use Rattle.nfc_base.specs.Signal.{Signal}
 use Rattle.nfc_base.specs.Trace.{Turn, heard, by_heard}
@@ -23,7 +24,8 @@ use Rattle.t5t_tag.specs.declared.command.T5Command.TheVariants.{NextSlot, Quiet
 use Rattle.t5t_tag.specs.Slots.{last_slot}
 use Rattle.nfcv_poll.specs.declared.mask.Mask.{Mask}
 use Rattle.nfcv_poll.specs.Masks.{extended, slots_frame}
-use Rattle.nfcv_poll.specs.Search.{most_passes, most_rounds, questions, with_id, id_at, said_by, said, begins_pass, fresh, fails, hush_stage, hushes, opens_with, leaves, with_clash, is_clash, is_spent, takes_in, takes, is_silence, answers_left, hears_at, stage_request, due_request, over_at, Course, Begins, Runs, asked_for, course_next, finding_all}
+use Rattle.nfcv_poll.specs.Search.{most_passes, most_rounds, questions, with_id, id_at, said_by, said, begins_pass, fresh, fails, hush_stage, hushes, opens_with, leaves, with_clash, is_clash}
+use Rattle.nfcv_poll.specs.Search.{is_spent, takes_in, takes, is_silence, answers_left, hears_at, stage_request, due_request, over_at, Course, Begins, Runs, asked_for, course_next, finding_all}
 use Rattle.nfcv_poll.specs.Finding.{is_answered, is_answered_question, answered_questions, begins_with, begins_round, rounds_begun, is_strange_said, is_strange, HasCauses}
 use Rattle.nfcv_poll.specs.declared.search.Said.{Said}
 use Rattle.nfcv_poll.specs.declared.search.Said.TheVariants as told
@@ -101,7 +103,8 @@ spent_rounds true true v h = refl
 spent_rounds true false v h = absurd cc
 spent_rounds false b v h = absurd cc
 
-takes_at : (s : Search) (m : Mask) (slot : ℕ) (x : Said) (ts : List Turn) → InPass s.pass ts → s.rounds ≤ rounds_begun ts → (x ≡ told.Strange → list_any is_strange ts ≡ true) → AtSearch (takes s m slot x) ts
+takes_at : (s : Search) (m : Mask) (slot : ℕ) (x : Said) (ts : List Turn) → InPass s.pass ts → s.rounds ≤ rounds_begun ts → (x ≡ told.Strange → list_any is_strange ts ≡ true)
+    → AtSearch (takes s m slot x) ts
 takes_at s m slot x ts h begun strange = by_spent (is_spent s m slot x) refl
   where
     left : Bool
@@ -142,7 +145,8 @@ one_both true false e k = absurd cc
 one_both false w e k = absurd cc
 
 -- in a slot no question is asked, and in the first one a round is begun
-slot_request : (m : Mask) (slot : ℕ) (t : Turn) → stage_request (stages.Slot m slot) ≡ Some t.request → (same_signal t.request inventory_all ≡ false) × (one_if (begins_round t) ≡ one_if (nat_eq slot 0))
+slot_request : (m : Mask) (slot : ℕ) (t : Turn) → stage_request (stages.Slot m slot) ≡ Some t.request
+    → (same_signal t.request inventory_all ≡ false) × (one_if (begins_round t) ≡ one_if (nat_eq slot 0))
 slot_request m slot t due = by_slot (nat_eq slot 0) due
   where
     by_slot : (v : Bool) → Some (if v then slots_frame m else command_frame NextSlot) ≡ Some t.request → (same_signal t.request inventory_all ≡ false) × (one_if (begins_round t) ≡ one_if v)
@@ -237,7 +241,8 @@ lost_few pass rounds (stages.WhoIsLeft asked) ts f due k = under pass ts k
 lost_few pass rounds stages.Over ts f due k = absurd cc
 lost_few pass rounds (stages.Fails fault) ts f due k = absurd cc
 
-by_heard_of : (s : Search) (ts : List Turn) (t : Turn) (o : Option Heard) → heard t ≡ o → AtSearch s ts → due_request s ≡ Some t.request → P (after finding_all (Reaches (Runs s)) (note o)) (ts ++ t ∷ [])
+by_heard_of : (s : Search) (ts : List Turn) (t : Turn) (o : Option Heard) → heard t ≡ o → AtSearch s ts → due_request s ≡ Some t.request
+    → P (after finding_all (Reaches (Runs s)) (note o)) (ts ++ t ∷ [])
 by_heard_of s ts t None e k due =
     let a = adds ts t in
     omega (arith, a.answered, none_both (same_signal t.request inventory_all) (is_answered (heard t)) (ap is_answered e), lost_few s.pass s.rounds s.stage ts t.request due k)
@@ -256,7 +261,8 @@ lights Begins ts k e = subst (λ us. AtSearch fresh us) (sym k) (record { count 
 lights (Runs s) ts k e = absurd (no_light (due_request s) e)
 
 -- how it ends
-told_other : (ts : List Turn) (r : Result (List (List ℕ)) PollFault) → answered_questions ts < 4 → (r ≡ Err faults.Disturbed → ⊥) → (r ≡ Err faults.BadAnswer → ⊥) → (r ≡ Err faults.Nobody → ⊥) → (r ≡ Err faults.NotFound → ⊥)
+told_other : (ts : List Turn) (r : Result (List (List ℕ)) PollFault) → answered_questions ts < 4 → (r ≡ Err faults.Disturbed → ⊥) → (r ≡ Err faults.BadAnswer → ⊥) → (r ≡ Err faults.Nobody → ⊥)
+    → (r ≡ Err faults.NotFound → ⊥)
     → HasCauses ts r
 told_other ts r few a b c d = record { disturbed = ((λ e. absurd (a e)), (λ e. absurd (omega (arith, few, e)))); bad = λ e. absurd (b e); nobody = c; not_found = d }
 

@@ -1,5 +1,6 @@
 -- How many rounds and slots a pass has, and what else its turns in slots tell.
-use Rattle.std.proofs.Common.{◌≡◌, ◌⊎◌, inl, inr, ◌≤◌, ◌<◌, ℕ, zero, suc, ◌+◌, ◌*◌, List, [], ◌∷◌, ◌++◌, length, get_or, reverse, Bool, true, false, not, ◌&&◌, nat_eq, nat_lt, if◌then◌else◌, Some, refl, sym, ◌∙◌, ap, subst, arith}
+use Rattle.std.proofs.Common.{◌≡◌, ◌⊎◌, inl, inr, ◌≤◌, ◌<◌, ℕ, zero, suc, ◌+◌, ◌*◌, List, [], ◌∷◌, ◌++◌, length, get_or, reverse, Bool, true, false, not, ◌&&◌, nat_eq, nat_lt, if◌then◌else◌, Some}
+use Rattle.std.proofs.Common.{refl, sym, ◌∙◌, ap, subst, arith}
 use Rattle.std.proofs.lemmas.Nat.{be_bytes_8}
 use Rattle.std.specs.Int.{w64, to_be_bytes}
 use Rattle.nfc_base.specs.Signal.{Signal}

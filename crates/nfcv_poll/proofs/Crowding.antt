@@ -1,5 +1,6 @@
 -- How a search stands to a crowd: a pass begins few rounds, and one without noise finds every tag and leaves all quiet.
-use Rattle.std.proofs.Common.{◌≡◌, ◌⊎◌, inl, inr, ◌≤◌, ◌<◌, ℕ, ◌+◌, List, [], ◌∷◌, ◌++◌, length, filter_map, reverse, Bool, true, false, not, ◌&&◌, nat_eq, nat_lt, nat_le, if◌then◌else◌, Option, Some, None, Result, Ok, Err, refl, sym, ◌∙◌, ap, subst, arith}
+use Rattle.std.proofs.Common.{◌≡◌, ◌⊎◌, inl, inr, ◌≤◌, ◌<◌, ℕ, ◌+◌, List, [], ◌∷◌, ◌++◌, length, filter_map, reverse, Bool, true, false, not, ◌&&◌, nat_eq, nat_lt, nat_le, if◌then◌else◌, Option, Some}
+use Rattle.std.proofs.Common.{None, Result, Ok, Err, refl, sym, ◌∙◌, ap, subst, arith}
 use Rattle.nfc_base.specs.declared.event.Event.{Event}
 use Rattle.nfc_base.specs.declared.event.Event.TheVariants.{Reset}
 use Rattle.nfc_base.specs.declared.event.Fate.TheVariants.{Pass, Damage, Lose, Break}
@@ -39,7 +40,8 @@ use Rattle.nfcv_poll.specs.declared.search.Stage.{Stage}
 use Rattle.nfcv_poll.specs.declared.search.Stage.TheVariants as stages
 use Rattle.nfcv_poll.specs.Finding.{is_answered, is_answered_question, begins_with, is_strange_said}
 use Rattle.nfcv_poll.specs.Masks.{no_bits, extended, slots_frame}
-use Rattle.nfcv_poll.specs.Search.{most_passes, most_rounds, questions, with_id, id_at, said_by, said, begins_pass, fresh, fails, hush_stage, hushes, opens_with, leaves, with_clash, is_spent, takes_in, takes, is_silence, answers_left, hears_at, stage_request, due_request, over_at, Course, Begins, Runs, course_step, course_next, finding_all}
+use Rattle.nfcv_poll.specs.Search.{most_passes, most_rounds, questions, with_id, id_at, said_by, said, begins_pass, fresh, fails, hush_stage, hushes, opens_with, leaves, with_clash, is_spent}
+use Rattle.nfcv_poll.specs.Search.{takes_in, takes, is_silence, answers_left, hears_at, stage_request, due_request, over_at, Course, Begins, Runs, course_step, course_next, finding_all}
 use Rattle.nfcv_poll.specs.Crowd.{AreCrowd, CrowdV, SearchesCrowd}
 use Rattle.nfcv_poll.specs.Passes.{passes, noise_of, noise_in, IsShort}
 use Rattle.nfcv_poll.specs.Tags.{IsOneOf, StepAsTags, tag_ids, noise_back}
@@ -50,8 +52,10 @@ use Rattle.nfcv_poll.proofs.Parted.{Parted, parted_none, parted_more, parted_end
 use Rattle.nfcv_poll.proofs.Quietly.{Still, place_of, quiet_at_last, still_next, quiet_silent, quiet_still, told_all, each_goes, none_says, AreSought, sought_on}
 use Rattle.nfcv_poll.proofs.Sought.{Sought, Learns, ToldOf, due_frame, not_least}
 use Rattle.nfcv_poll.proofs.Clashing.{AreWith}
-use Rattle.nfcv_poll.proofs.FoundTags.{Inv, Stands, IsHeeded, Stay, turn_at, turn_hears, turn_request, turns_more, request_heeded, stay_on, told_there, not_strange, lights as finds_lit, asks as finds_asked, due_some, no_light}
-use Rattle.nfcv_poll.proofs.Passing.{Mark, IsMarked, Met, reached, missed, met, Behind, behind_next, behind_slots, none_left, Working, few_rounds, Begun, pass_begins, Kept, without_clash, shallow, Pushed, Clashed, pushed, passed, with_clash as clash_more, Next, next_round}
+use Rattle.nfcv_poll.proofs.FoundTags.{Inv, Stands, IsHeeded, Stay, turn_at, turn_hears, turn_request, turns_more, request_heeded, stay_on, told_there, not_strange, lights as finds_lit}
+use Rattle.nfcv_poll.proofs.FoundTags.{asks as finds_asked, due_some, no_light}
+use Rattle.nfcv_poll.proofs.Passing.{Mark, IsMarked, Met, reached, missed, met, Behind, behind_next, behind_slots, none_left, Working, few_rounds, Begun, pass_begins, Kept, without_clash, shallow}
+use Rattle.nfcv_poll.proofs.Passing.{Pushed, Clashed, pushed, passed, with_clash as clash_more, Next, next_round}
 use Rattle.nfcv_poll.proofs.Paths.{mask_by}
 use Rattle.nfcv_poll.proofs.Preorder.{Before}
 use Rattle.nfcv_poll.proofs.Standing.{Fares, IsPlaced, ArePlaced, placed_more}
@@ -141,7 +145,8 @@ module _ {L : Type 0} (m : Machine L) (tag : L → T5State) (lit : L → Bool) (
       sought_ : AreSought m tag lit are ids crowd found first.more.path 0 first.more.cs first.more.ws w.listeners
       sought_ =
           let A : List ℕ → List (List ℕ) → List (List ℕ) → Type 0 = λ q cs ws. AreSought m tag lit are ids crowd found q 0 cs ws w.listeners in
-          let one : A [] [] [] = each_map (λ l. m.tech l ≡ V → IsPlaced m tag lit are ids found l) (λ l. m.tech l ≡ V → Sought found [] 0 [] [] (tag l)) (λ l p v. first_sought found (tag l) (p v).quiet) w.listeners placed in
+          let one : A [] [] [] = each_map (λ l. m.tech l ≡ V → IsPlaced m tag lit are ids found l) (λ l. m.tech l ≡ V → Sought found [] 0 [] [] (tag l))
+          (λ l p v. first_sought found (tag l) (p v).quiet) w.listeners placed in
           let two : A [] first.more.cs [] = subst (λ cs. A [] cs []) (sym first.cs') one in
           let three : A [] first.more.cs first.more.ws = subst (λ ws. A [] first.more.cs ws) (sym first.ws') two in
           subst (λ q. A q first.more.cs first.more.ws) (sym first.path') three
@@ -155,7 +160,11 @@ module _ {L : Type 0} (m : Machine L) (tag : L → T5State) (lit : L → Bool) (
         clashes' = k.clashes';
         masks' = k.masks';
         short = k.short;
-        quiets = λ z. ((k.quiets z).0, each_map (λ l. m.tech l ≡ V → Still s.found at (tag l)) (λ l. m.tech l ≡ V → (tag l).quiet ≡ true) (λ l h v. quiet_at_last s.found at (tag l) e (h v)) w.listeners (k.quiets z).1);
+        quiets = λ z. (
+          (k.quiets z).0,
+          each_map (λ l. m.tech l ≡ V → Still s.found at (tag l)) (λ l. m.tech l ≡ V → (tag l).quiet ≡ true) (λ l h v. quiet_at_last s.found at (tag l) e (h v))
+              w.listeners (k.quiets z).1,
+        );
       }
       by_place (Some id) e = record {
         clashes' = k.clashes';
@@ -165,9 +174,11 @@ module _ {L : Type 0} (m : Machine L) (tag : L → T5State) (lit : L → Bool) (
       }
 
   -- behind a request in a slot
-  behind : (found : List (List ℕ)) (w : World L) (rounds : ℕ) (clashes masks : List Mask) (n : Mask) (slot : ℕ) (f : Signal) (x y : Fate) (h : Heard) → tag_ids m tag w.listeners ≡ ids → ArePlaced m tag lit are ids found w.listeners
+  behind : (found : List (List ℕ)) (w : World L) (rounds : ℕ) (clashes masks : List Mask) (n : Mask) (slot : ℕ) (f : Signal) (x y : Fate) (h : Heard) → tag_ids m tag w.listeners ≡ ids
+      → ArePlaced m tag lit are ids found w.listeners
       → Some h ≡ turn_heard (mute_air m) w f x y → (k : Works rounds clashes masks n slot w) → stage_request (stages.Slot n slot) ≡ Some f
-      → Behind m tag lit are ids crowd.long x (round_by (nat_eq slot 0) k.path k.within.actual) (slot_by (nat_eq slot 0) k.within.current) k.path k.marks h (replay (mute_air m) w (turn_events (mute_air m) w f x y))
+      → Behind m tag lit are ids crowd.long x (round_by (nat_eq slot 0) k.path k.within.actual) (slot_by (nat_eq slot 0) k.within.current) k.path k.marks h
+      (replay (mute_air m) w (turn_events (mute_air m) w f x y))
   behind found w rounds clashes masks n slot f x y h same placed heard k due = by_slot (nat_eq slot 0) refl due
     where
       Turned : Bool → Signal → Type 0
@@ -215,7 +226,8 @@ module _ {L : Type 0} (m : Machine L) (tag : L → T5State) (lit : L → Bool) (
         )
 
     -- the next round looks for those that wait
-    looks_next : 16 ≤ slot + 1 → (n' : Mask) (rest : List Mask) (e : all ≡ n' ∷ rest) → (x : Next m tag lit are ids crowd.long s.rounds s.clashes s.masks n (slot + 1) w k.work n' rest e) → noise_in now ≡ 0
+    looks_next : 16 ≤ slot + 1 → (n' : Mask) (rest : List Mask) (e : all ≡ n' ∷ rest) → (x : Next m tag lit are ids crowd.long s.rounds s.clashes s.masks n (slot + 1) w k.work n' rest e)
+        → noise_in now ≡ 0
         → Looks s.found (s.rounds + 1) [] rest n' 0 w x.more
     looks_next last n' rest e x z = record {
       pace = λ h. absurd (omega (arith, h));
@@ -248,7 +260,8 @@ module _ {L : Type 0} (m : Machine L) (tag : L → T5State) (lit : L → Bool) (
             → Passes (if v then fails (record s { masks = rest; clashes = [] }) faults.BadAnswer else record s { rounds = s.rounds + 1; masks = rest; clashes = []; stage = stages.Slot n' 0 }) w now
         by_rounds true h = absurd cc
         by_rounds false h =
-            let x : Next m tag lit are ids crowd.long s.rounds s.clashes s.masks n (slot + 1) w k.work n' rest e = next_round m tag lit are ids crowd.long s.rounds s.clashes s.masks n (slot + 1) w k.work n' rest e in
+            let x : Next m tag lit are ids crowd.long s.rounds s.clashes s.masks n (slot + 1) w k.work n' rest e =
+            next_round m tag lit are ids crowd.long s.rounds s.clashes s.masks n (slot + 1) w k.work n' rest e in
             let end : 16 ≡ slot + 1 = omega (arith, last, less) in
             (omega arith, record { work = x.more; counts = counts_round s.rounds (slot + 1) now end k.counts; looks = looks_next last n' rest e x })
 
@@ -270,7 +283,8 @@ module _ {L : Type 0} (m : Machine L) (tag : L → T5State) (lit : L → Bool) (
   quiet_turn w f Break y h = absurd (let q : 1 + 0 ≡ 0 = h in omega (arith, q))
 
   -- then the listeners have heard it
-  goes_through : (w : World L) (f : Signal) (x y : Fate) (h : Heard) → x ≡ Pass → Some h ≡ turn_heard (mute_air m) w f x y → replay (mute_air m) w (turn_events (mute_air m) w f x y) ≡ stepped (muted m) w f
+  goes_through : (w : World L) (f : Signal) (x y : Fate) (h : Heard) → x ≡ Pass → Some h ≡ turn_heard (mute_air m) w f x y
+      → replay (mute_air m) w (turn_events (mute_air m) w f x y) ≡ stepped (muted m) w f
   goes_through w f x y h pass heard = by_met (met m tag lit are ids crowd.long w f x y h heard)
     where
       by_met : Met m tag lit are ids crowd.long w f x y h → replay (mute_air m) w (turn_events (mute_air m) w f x y) ≡ stepped (muted m) w f
@@ -281,7 +295,8 @@ module _ {L : Type 0} (m : Machine L) (tag : L → T5State) (lit : L → Bool) (
   back_heard w f x y h pass heard = let T : Fate → Type 0 = λ z. Some h ≡ turn_heard (mute_air m) w f z y in subst T pass heard
 
   -- a turn in a slot
-  module _ (s : Search) (w : World L) (es : List Event) (n : Mask) (slot : ℕ) (f : Signal) (x y : Fate) (h : Heard) (stands : Stands m tag lit are ids crowd.long s w (turns es)) (heard : Some h ≡ turn_heard (mute_air m) w f x y)
+  module _ (s : Search) (w : World L) (es : List Event) (n : Mask) (slot : ℕ) (f : Signal) (x y : Fate) (h : Heard) (stands : Stands m tag lit are ids crowd.long s w (turns es))
+      (heard : Some h ≡ turn_heard (mute_air m) w f x y)
       (less : slot < 16) (now : List Turn) (at : AtSlot s.found s.rounds s.clashes s.masks n slot w now) (due : stage_request (stages.Slot n slot) ≡ Some f) where
     abbrev k : Works s.rounds s.clashes s.masks n slot w
     k = at.work
@@ -323,7 +338,8 @@ module _ {L : Type 0} (m : Machine L) (tag : L → T5State) (lit : L → Bool) (
     paced : x ≡ Pass → (0 < slot → (k.within.actual ≡ k.path) × (k.within.current + 1 ≡ slot)) → (b.within.actual ≡ k.path) × (b.within.current ≡ slot)
     paced pass pace = by_first (nat_eq slot 0) refl (b.pace pass)
       where
-        by_first : (v : Bool) → nat_eq slot 0 ≡ v → (b.within.actual ≡ round_by v k.path k.within.actual) × (b.within.current ≡ slot_by v k.within.current) → (b.within.actual ≡ k.path) × (b.within.current ≡ slot)
+        by_first : (v : Bool) → nat_eq slot 0 ≡ v → (b.within.actual ≡ round_by v k.path k.within.actual) × (b.within.current ≡ slot_by v k.within.current)
+            → (b.within.actual ≡ k.path) × (b.within.current ≡ slot)
         by_first true e p = (p.0, p.1 ∙ sym (same_number slot 0 e))
         by_first false e p = let q = pace (other_number slot e) in (p.0 ∙ q.0, p.1 ∙ q.1)
 
@@ -340,14 +356,18 @@ module _ {L : Type 0} (m : Machine L) (tag : L → T5State) (lit : L → Bool) (
     quiet_now : noise_in then_ ≡ 0 → (noise_in now ≡ 0) × (x ≡ Pass) × (noise_back (joint_back ((mute_air m).joint w f) y) ≡ 0)
     quiet_now z = let a = none_before now turn z in let q = quiet_turn w f x y a.1 in (a.0, q.0, q.1)
 
-    sees : (found' cs' ws' : List (List ℕ)) → Learns ids s.found k.path slot k.cs k.ws h found' cs' ws' → noise_in then_ ≡ 0 → AreSought m tag lit are ids crowd found' k.path (slot + 1) cs' ws' after.listeners
+    sees : (found' cs' ws' : List (List ℕ)) → Learns ids s.found k.path slot k.cs k.ws h found' cs' ws' → noise_in then_ ≡ 0
+        → AreSought m tag lit are ids crowd found' k.path (slot + 1) cs' ws' after.listeners
     sees found' cs' ws' learns z =
         let q = quiet_now z in
         let goes : after ≡ stepped (muted m) w f = goes_through w f x y h q.1 heard in
-        let told_ : Each (ToldOf h) (filter_map (λ l. answered_by (muted m) l f None) w.listeners) = told_all (filter_map (λ l. answered_by (muted m) l f None) w.listeners) y h q.2 (back_heard w f x y h q.1 heard) in
-        let S : Signal → Type 0 = λ g. Each (ToldOf h) (filter_map (λ l. answered_by (muted m) l g None) w.listeners) → AreSought m tag lit are ids crowd found' k.path (slot + 1) cs' ws' (stepped (muted m) w g).listeners in
+        let told_ : Each (ToldOf h) (filter_map (λ l. answered_by (muted m) l f None) w.listeners) =
+        told_all (filter_map (λ l. answered_by (muted m) l f None) w.listeners) y h q.2 (back_heard w f x y h q.1 heard) in
+        let S : Signal → Type 0 = λ g. Each (ToldOf h) (filter_map (λ l. answered_by (muted m) l g None) w.listeners)
+        → AreSought m tag lit are ids crowd found' k.path (slot + 1) cs' ws' (stepped (muted m) w g).listeners in
         let there : AreSought m tag lit are ids crowd found' k.path (slot + 1) cs' ws' (stepped (muted m) w f).listeners =
-        subst S (sym is_due) (λ t. sought_on m tag lit are ids crowd s.found k.path slot k.cs k.ws h found' cs' ws' learns k.of_path less fares w.listeners stands.placed t (at.looks q.0).sought) told_ in
+        subst S (sym is_due) (λ t. sought_on m tag lit are ids crowd s.found k.path slot k.cs k.ws h found' cs' ws' learns k.of_path less fares w.listeners stands.placed t (at.looks q.0).sought)
+        told_ in
         subst (λ (v : World L). AreSought m tag lit are ids crowd found' k.path (slot + 1) cs' ws' v.listeners) (sym goes) there
 
     counts : Counts s.rounds (slot + 1) then_
@@ -378,7 +398,8 @@ module _ {L : Type 0} (m : Machine L) (tag : L → T5State) (lit : L → Bool) (
     Own is = Each (λ i. (length i ≡ id_size) × Each (λ b. b < 256) i) is
 
     owned : (is : List (List ℕ)) → Each (λ i. IsOneOf i ids) is → Own is
-    owned is h = each_map (λ i. IsOneOf i ids) (λ i. (length i ≡ id_size) × Each (λ b. b < 256) i) (λ i o. (each_one (λ i. length i ≡ id_size) ids i crowd.long o, each_one (λ i. Each (λ b. b < 256) i) ids i crowd.bytes o)) is h
+    owned is h = each_map (λ i. IsOneOf i ids) (λ i. (length i ≡ id_size) × Each (λ b. b < 256) i)
+        (λ i o. (each_one (λ i. length i ≡ id_size) ids i crowd.long o, each_one (λ i. Each (λ b. b < 256) i) ids i crowd.bytes o)) is h
 
     taken : (z : Said) → said h ≡ z → Passes (takes_in s n slot z) after then_
     taken told.Nothing e =
@@ -391,7 +412,8 @@ module _ {L : Type 0} (m : Machine L) (tag : L → T5State) (lit : L → Bool) (
     taken (told.Tag id) e =
         let found' : List (List ℕ) = with_id s.found id in
         let own : IsOneOf id ids = told_there m tag lit are ids crowd.long s.found w f x y h id heeded heard (record { same = stands.same; placed = stands.placed }) e in
-        let there : IsOneOf id found' = recorded s.found id (owned s.found stands.known) (each_one (λ i. length i ≡ id_size) ids id crowd.long own) (each_one (λ i. Each (λ b. b < 256) i) ids id crowd.bytes own) in
+        let there : IsOneOf id found' = recorded s.found id (owned s.found stands.known) (each_one (λ i. length i ≡ id_size) ids id crowd.long own)
+        (each_one (λ i. Each (λ b. b < 256) i) ids id crowd.bytes own) in
         leaves_passes (record s { found = found' }) n slot after then_ (placed_more m tag lit are ids s.found id after.listeners stays_so.placed) stays_so.same less (no_more found' (record {
           keeps = λ i o. stays s.found id i o;
           tells = λ i q. (let d : told.Tag id ≡ told.Tag i = sym e ∙ q in let same_ : id ≡ i = cc in subst (λ j. IsOneOf j found') same_ there);
@@ -401,8 +423,17 @@ module _ {L : Type 0} (m : Machine L) (tag : L → T5State) (lit : L → Bool) (
     taken told.Strange e = absurd (let no_ : true ≡ false = sym (ap is_strange_said e) ∙ plain in cc)
     taken told.Clash e = by_clash (clash_more m tag lit are ids crowd.long s.rounds s.clashes s.masks n slot w after h k x round_now slot_now b crowd less e)
       where
-        pushes : (longer : Mask) (p : Pushed m tag lit are ids crowd.long s.rounds s.clashes s.masks n slot w after h k x round_now slot_now b longer) → AtSlot s.found s.rounds (longer ∷ s.clashes) s.masks n (slot + 1) after then_
-        pushes longer p = record { work = p.more; counts = counts; looks = λ z. record { pace = λ _. (p.within'.0 ∙ (pace_now z).0 ∙ sym p.path', ap (λ c. c + 1) (p.within'.1 ∙ (pace_now z).1)); sought = sought_ z } }
+        pushes : (longer : Mask) (p : Pushed m tag lit are ids crowd.long s.rounds s.clashes s.masks n slot w after h k x round_now slot_now b longer)
+            → AtSlot s.found s.rounds (longer ∷ s.clashes) s.masks n (slot + 1) after then_
+        pushes longer p =
+            record {
+              work = p.more;
+              counts = counts;
+              looks = λ z. record {
+                pace = λ _. (p.within'.0 ∙ (pace_now z).0 ∙ sym p.path', ap (λ c. c + 1) (p.within'.1 ∙ (pace_now z).1));
+                sought = sought_ z;
+              };
+            }
           where
             learns : Learns ids s.found k.path slot k.cs k.ws h s.found ((k.path ++ slot ∷ []) ∷ k.cs) k.ws
             learns = record {
@@ -435,7 +466,8 @@ module _ {L : Type 0} (m : Machine L) (tag : L → T5State) (lit : L → Bool) (
 
         by_clash : Clashed m tag lit are ids crowd.long s.rounds s.clashes s.masks n slot w after h k x round_now slot_now b → Passes (leaves (with_clash s (extended n slot)) n slot) after then_
         by_clash (pushed longer p) =
-            subst (λ o. Passes (leaves (with_clash s o) n slot) after then_) (sym p.is) (leaves_passes (record s { clashes = longer ∷ s.clashes }) n slot after then_ stays_so.placed stays_so.same less (pushes longer p))
+            subst (λ o. Passes (leaves (with_clash s o) n slot) after then_) (sym p.is) (leaves_passes (record s { clashes = longer ∷ s.clashes }) n slot after then_ stays_so.placed stays_so.same less
+            (pushes longer p))
         by_clash (passed is long) =
             subst (λ o. Passes (leaves (with_clash s o) n slot) after then_) (sym is) (leaves_passes s n slot after then_ stays_so.placed stays_so.same less (passes_over long))
 
@@ -449,7 +481,8 @@ module _ {L : Type 0} (m : Machine L) (tag : L → T5State) (lit : L → Bool) (
     slot_open = unanswered turn (slot_turn n (nat_eq slot 0) turn.request (due ∙ ap Some (sym (turn_request m tag lit are ids crowd.long w f x y)))).other
 
   -- a request to stay quiet
-  module _ (s : Search) (w : World L) (es : List Event) (id : List ℕ) (place : ℕ) (f : Signal) (x y : Fate) (h : Heard) (stands : Stands m tag lit are ids crowd.long s w (turns es)) (heard : Some h ≡ turn_heard (mute_air m) w f x y)
+  module _ (s : Search) (w : World L) (es : List Event) (id : List ℕ) (place : ℕ) (f : Signal) (x y : Fate) (h : Heard) (stands : Stands m tag lit are ids crowd.long s w (turns es))
+      (heard : Some h ≡ turn_heard (mute_air m) w f x y)
       (now : List Turn) (at : AtEnd s now (AtHush s.found id place w)) (due : Some (command_frame (Quiet id)) ≡ Some f) where
     abbrev hushed : World L
     hushed = replay (mute_air m) w (turn_events (mute_air m) w f x y)
@@ -476,7 +509,8 @@ module _ {L : Type 0} (m : Machine L) (tag : L → T5State) (lit : L → Bool) (
         let own : IsOneOf id ids = each_one (λ i. IsOneOf i ids) s.found id stands.known (one_at s.found t.place id t.at) in
         let eight : length id ≡ id_size = each_one (λ i. length i ≡ id_size) ids id crowd.long own in
         let there : AreStill s.found (t.place + 1) (stepped (muted m) w (command_frame (Quiet id))) =
-        each_goes m tag lit are ids crowd (command_frame (Quiet id)) refl s.found (Still s.found t.place) (Still s.found (t.place + 1)) (λ u st. still_next s.found t.place id u eight t.at st) w.listeners stands.placed t.still in
+        each_goes m tag lit are ids crowd (command_frame (Quiet id)) refl s.found (Still s.found t.place) (Still s.found (t.place + 1)) (λ u st. still_next s.found t.place id u eight t.at st)
+        w.listeners stands.placed t.still in
         let one : AreStill s.found (t.place + 1) (stepped (muted m) w f) = subst (λ g. AreStill s.found (t.place + 1) (stepped (muted m) w g)) named there in
         let two : AreStill s.found (t.place + 1) hushed = subst (AreStill s.found (t.place + 1)) (sym goes) one in
         (k.0, subst (λ n. AreStill s.found n hushed) (sym t.after') two)
@@ -490,7 +524,8 @@ module _ {L : Type 0} (m : Machine L) (tag : L → T5State) (lit : L → Bool) (
     })
 
   -- a question who is left
-  module _ (s : Search) (w : World L) (es : List Event) (asked : ℕ) (f : Signal) (x y : Fate) (h : Heard) (stands : Stands m tag lit are ids crowd.long s w (turns es)) (heard : Some h ≡ turn_heard (mute_air m) w f x y)
+  module _ (s : Search) (w : World L) (es : List Event) (asked : ℕ) (f : Signal) (x y : Fate) (h : Heard) (stands : Stands m tag lit are ids crowd.long s w (turns es))
+      (heard : Some h ≡ turn_heard (mute_air m) w f x y)
       (now : List Turn) (at : AtEnd s now (AreQuiet w)) (due : Some question_frame ≡ Some f) where
     abbrev answered : World L
     answered = replay (mute_air m) w (turn_events (mute_air m) w f x y)
@@ -550,7 +585,8 @@ module _ {L : Type 0} (m : Machine L) (tag : L → T5State) (lit : L → Bool) (
         let q = quiet_turn w f x y a.1 in
         let k = at.quiets a.0 in
         let goes : answered ≡ stepped (muted m) w f = goes_through w f x y h q.0 heard in
-        let there : AreQuiet (stepped (muted m) w question_frame) = each_goes m tag lit are ids crowd question_frame refl s.found (λ t. t.quiet ≡ true) (λ t. t.quiet ≡ true) (λ t e. quiet_still t e) w.listeners stands.placed k.1 in
+        let there : AreQuiet (stepped (muted m) w question_frame) = each_goes m tag lit are ids crowd question_frame refl s.found (λ t. t.quiet ≡ true) (λ t. t.quiet ≡ true) (λ t e. quiet_still t e)
+        w.listeners stands.placed k.1 in
         let one : AreQuiet (stepped (muted m) w f) = subst (λ g. AreQuiet (stepped (muted m) w g)) is_question there in
         (k.0, subst AreQuiet (sym goes) one)
 
@@ -598,14 +634,16 @@ module _ {L : Type 0} (m : Machine L) (tag : L → T5State) (lit : L → Bool) (
   abbrev turn_of : World L → Signal → Fate → Fate → Turn
   turn_of w f x y = turn_at m tag lit are ids crowd.long w f x y
 
-  module _ (s : Search) (w : World L) (es : List Event) (f : Signal) (x y : Fate) (h : Heard) (stands : Stands m tag lit are ids crowd.long s w (turns es)) (heard : Some h ≡ turn_heard (mute_air m) w f x y) (now : List Turn) (along : Along (turns es) now) where
+  module _ (s : Search) (w : World L) (es : List Event) (f : Signal) (x y : Fate) (h : Heard) (stands : Stands m tag lit are ids crowd.long s w (turns es))
+      (heard : Some h ≡ turn_heard (mute_air m) w f x y) (now : List Turn) (along : Along (turns es) now) where
     abbrev behind_it : World L
     behind_it = replay (mute_air m) w (turn_events (mute_air m) w f x y)
 
     abbrev all_turns : List Turn
     all_turns = turns es ++ turn_of w f x y ∷ []
 
-    asked_question : (asked : ℕ) → AtEnd s now (AreQuiet w) → stage_request (stages.WhoIsLeft asked) ≡ Some f → ArePlaced m tag lit are ids s.found behind_it.listeners → Ahead (answers_left s asked (is_silence h)) behind_it all_turns
+    asked_question : (asked : ℕ) → AtEnd s now (AreQuiet w) → stage_request (stages.WhoIsLeft asked) ≡ Some f → ArePlaced m tag lit are ids s.found behind_it.listeners
+        → Ahead (answers_left s asked (is_silence h)) behind_it all_turns
     asked_question asked at due placed = by_silence (is_silence h) refl
       where
         by_silence : (v : Bool) → is_silence h ≡ v → Ahead (answers_left s asked v) behind_it all_turns
@@ -616,7 +654,8 @@ module _ {L : Type 0} (m : Machine L) (tag : L → T5State) (lit : L → Bool) (
         )
         by_silence false e = (
           [],
-          along_end (turns es) now (turn_of w f x y) along (is_answered_by s w es asked f x y h stands heard now at due ∙ ap not e) (short_still s w es asked f x y h stands heard now at due) (loud_noise s w es asked f x y h stands heard now at due e),
+          along_end (turns es) now (turn_of w f x y) along (is_answered_by s w es asked f x y h stands heard now at due ∙ ap not e) (short_still s w es asked f x y h stands heard now at due)
+              (loud_noise s w es asked f x y h stands heard now at due e),
           loud_goes s w es asked f x y h stands heard now at due e placed (nat_lt s.pass most_passes),
         )
 
@@ -678,7 +717,8 @@ module _ {L : Type 0} (m : Machine L) (tag : L → T5State) (lit : L → Bool) (
     quiet = λ other e. (let same : found ≡ other = cc in
         let A : List (List ℕ) → Type 0 = λ is. Each (λ p. noise_in p ≡ 0 → AllFound is) (passes ts) in
         subst A same
-        (each_pass (λ p. noise_in p ≡ 0 → AllFound found) ts a.ended now a.parted (each_map (λ p. IsShort p × (1 ≤ noise_in p)) (λ p. noise_in p ≡ 0 → AllFound found) (λ p k. noisy_not found p k) a.ended a.good) quiets));
+        (each_pass (λ p. noise_in p ≡ 0 → AllFound found) ts a.ended now a.parted (each_map (λ p. IsShort p × (1 ≤ noise_in p)) (λ p. noise_in p ≡ 0 → AllFound found) (λ p k. noisy_not found p k)
+        a.ended a.good) quiets));
     disturbed = λ e. absurd cc;
   }
 
@@ -703,7 +743,8 @@ module _ {L : Type 0} (m : Machine L) (tag : L → T5State) (lit : L → Bool) (
   ends_at s w ts now a (stages.Fails fault) k = told_fault fault ts k.0 (subst (Along ts) k.1 a)
 
   -- a turn by which the field is lost
-  module _ (s : Search) (w : World L) (es : List Event) (f : Signal) (x y : Fate) (stands : Stands m tag lit are ids crowd.long s w (turns es)) (lost : None ≡ turn_heard (mute_air m) w f x y) (now : List Turn) (along : Along (turns es) now) where
+  module _ (s : Search) (w : World L) (es : List Event) (f : Signal) (x y : Fate) (stands : Stands m tag lit are ids crowd.long s w (turns es)) (lost : None ≡ turn_heard (mute_air m) w f x y)
+      (now : List Turn) (along : Along (turns es) now) where
     abbrev last_turn : Turn
     last_turn = turn_of w f x y
 
@@ -746,7 +787,8 @@ module _ {L : Type 0} (m : Machine L) (tag : L → T5State) (lit : L → Bool) (
       let I : World L → Type 0 = λ v. So (finding_all.light s) v (es ++ Reset ∷ []) in
       subst I (sym (replay-append (mute_air m) w es (Reset ∷ []))) (lights s (replay (mute_air m) w es) es k due)
 
-  kept_asked : (w : World L) (s : Course) (es : List Event) (f : Signal) (x y : Fate) → KeptBy w (Reaches s) es → course_next s ≡ Asks f → (o : Option Heard) → o ≡ turn_heard (mute_air m) (replay (mute_air m) w es) f x y
+  kept_asked : (w : World L) (s : Course) (es : List Event) (f : Signal) (x y : Fate) → KeptBy w (Reaches s) es → course_next s ≡ Asks f → (o : Option Heard)
+      → o ≡ turn_heard (mute_air m) (replay (mute_air m) w es) f x y
       → KeptBy w (after_note finding_all (Reaches s) (note o)) (es ++ turn_events (mute_air m) (replay (mute_air m) w es) f x y)
   kept_asked w Begins es f x y k due o q = absurd cc
   kept_asked w (Runs s) es f x y k due None q =
@@ -765,10 +807,12 @@ module _ {L : Type 0} (m : Machine L) (tag : L → T5State) (lit : L → Bool) (
       let ahead : Ahead s v (turns es) = k.1 in ends_at s v (turns es) ahead.0 ahead.1 s.stage ahead.2
   ends w Loses es k = record { never_bad = λ e. cc; few = k; quiet = λ found e. absurd cc; disturbed = λ e. absurd cc }
 
-  kept : (old new : Air L) (notes : List Note) → tag_ids m tag old.listeners ≡ ids → (g : Going (mute_air m) (enquiring finding_all) (moment old) (moment new) notes) → KeptBy (moment old).world (progress finding_all Begins notes) g.events
+  kept : (old new : Air L) (notes : List Note) → tag_ids m tag old.listeners ≡ ids → (g : Going (mute_air m) (enquiring finding_all) (moment old) (moment new) notes)
+      → KeptBy (moment old).world (progress finding_all Begins notes) g.events
   kept old new notes same g =
       let w : World L = (moment old).world in
-      holds finding_all (mute_air m) w (KeptBy w) ((same, refl), refl) (kept_lit w) (λ s es f x y k due lit_. kept_asked w s es f x y k due (turn_heard (mute_air m) (replay (mute_air m) w es) f x y) refl) (moment old) (moment new) notes refl g
+      holds finding_all (mute_air m) w (KeptBy w) ((same, refl), refl) (kept_lit w) (λ s es f x y k due lit_. kept_asked w s es f x y k due (turn_heard (mute_air m) (replay (mute_air m) w es) f x y)
+      refl) (moment old) (moment new) notes refl g
 
 pub searches_crowd : {L : Type 0} (m : Machine L) (old new : Air L) (r : Result (List (List ℕ)) PollFault) → Enquires finding_all m old r new → SearchesCrowd m old r new
 searches_crowd m old new r q tag lit are crowd =

@@ -18,7 +18,8 @@ pub due_not_over : (s : Search) (f : Signal) → due_request s ≡ Some f → is
 due_not_over s f e = not_over s.found s.stage f e
 
 -- nothing is due, and it didn't fail
-pub over_well : (found : List (List ℕ)) (stage : Stage) (o : Option Signal) → o ≡ stage_request stage → ((f : Signal) → o ≡ Some f → ⊥) → ((fault : PollFault) → stage ≡ stages.Fails fault → ⊥) → over_at found stage ≡ Some (Ok found)
+pub over_well : (found : List (List ℕ)) (stage : Stage) (o : Option Signal) → o ≡ stage_request stage → ((f : Signal) → o ≡ Some f → ⊥) → ((fault : PollFault) → stage ≡ stages.Fails fault → ⊥)
+    → over_at found stage ≡ Some (Ok found)
 over_well found (stages.Slot m slot) o e none well = absurd (none _ e)
 over_well found (stages.Hush id next) o e none well = absurd (none _ e)
 over_well found (stages.WhoIsLeft asked) o e none well = absurd (none _ e)

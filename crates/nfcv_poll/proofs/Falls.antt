@@ -1,5 +1,6 @@
 -- Each request of a search leaves less to do.
-use Rattle.std.proofs.Common.{◌≡◌, ℕ, zero, suc, ◌+◌, ◌-◌, ◌*◌, ◌<◌, ◌≤◌, List, [], ◌∷◌, ◌++◌, length, reverse, Bool, true, false, nat_eq, nat_lt, nat_le, if◌then◌else◌, Option, Some, None, refl, sym, arith}
+use Rattle.std.proofs.Common.{◌≡◌, ℕ, zero, suc, ◌+◌, ◌-◌, ◌*◌, ◌<◌, ◌≤◌, List, [], ◌∷◌, ◌++◌, length, reverse, Bool, true, false, nat_eq, nat_lt, nat_le, if◌then◌else◌, Option, Some, None, refl, sym}
+use Rattle.std.proofs.Common.{arith}
 use Rattle.std.proofs.Math.Nat.{mul-le-mul_left}
 use Rattle.nfc_base.specs.Signal.{Signal}
 use Rattle.nfc_base.specs.declared.event.Heard.{Heard}
@@ -7,7 +8,8 @@ use Rattle.t5t_tag.specs.Slots.{id_number, last_slot}
 use Rattle.nfca_poll.specs.declared.fault.PollFault.TheVariants as faults
 use Rattle.nfcv_poll.specs.declared.mask.Mask.{Mask}
 use Rattle.nfcv_poll.specs.Masks.{extended}
-use Rattle.nfcv_poll.specs.Search.{most_passes, most_rounds, questions, with_id, id_at, said, begins_pass, fails, hush_stage, opens_with, leaves, with_clash, is_spent, takes_in, takes, is_silence, answers_left, hears_at, hears, due_request}
+use Rattle.nfcv_poll.specs.Search.{most_passes, most_rounds, questions, with_id, id_at, said, begins_pass, fails, hush_stage, opens_with, leaves, with_clash, is_spent, takes_in, takes, is_silence}
+use Rattle.nfcv_poll.specs.Search.{answers_left, hears_at, hears, due_request}
 use Rattle.nfcv_poll.specs.declared.search.Said.{Said}
 use Rattle.nfcv_poll.specs.declared.search.Said.TheVariants as told
 use Rattle.nfcv_poll.specs.declared.search.Search.{Search}
@@ -138,7 +140,8 @@ falls_at s (stages.WhoIsLeft asked) h f due = by_silence (is_silence h)
     here_left : ℕ
     here_left = left_by s.pass s.rounds s.found (stages.WhoIsLeft asked)
 
-    by_count : (v : Bool) → nat_lt (asked + 1) questions ≡ v → left (record s { stage = if v then stages.WhoIsLeft (asked + 1) else stages.Over }) < left_by s.pass s.rounds s.found (stages.WhoIsLeft asked)
+    by_count : (v : Bool) → nat_lt (asked + 1) questions ≡ v → left (record s { stage = if v then stages.WhoIsLeft (asked + 1) else stages.Over })
+        < left_by s.pass s.rounds s.found (stages.WhoIsLeft asked)
     by_count true e = omega (arith, less_of (asked + 1) 4 e)
     by_count false e = omega arith
 

@@ -1,5 +1,6 @@
 -- A search finds tags that are there, and misses one only where noise met each of the last four questions.
-use Rattle.std.proofs.Common.{◌≡◌, ◌⊎◌, inl, inr, ◌≤◌, ◌<◌, ℕ, ◌+◌, List, [], ◌∷◌, ◌++◌, length, map, filter_map, replicate, Bool, true, false, ◌||◌, nat_eq, nat_lt, if◌then◌else◌, Option, Some, None, Result, Err, append_assoc, refl, sym, ◌∙◌, ap, subst, arith}
+use Rattle.std.proofs.Common.{◌≡◌, ◌⊎◌, inl, inr, ◌≤◌, ◌<◌, ℕ, ◌+◌, List, [], ◌∷◌, ◌++◌, length, map, filter_map, replicate, Bool, true, false, ◌||◌, nat_eq, nat_lt, if◌then◌else◌, Option, Some, None}
+use Rattle.std.proofs.Common.{Result, Err, append_assoc, refl, sym, ◌∙◌, ap, subst, arith}
 use Rattle.std.specs.List.{list_any}
 use Rattle.std.proofs.lemmas.List.{append-nil, length-append}
 use Rattle.nfc_base.specs.declared.event.Event.{Event}
@@ -40,7 +41,8 @@ use Rattle.t5t_tag.proofs.SpelledAnswers.{answer_reads}
 use Rattle.nfcv_poll.specs.declared.mask.Mask.{Mask}
 use Rattle.nfcv_poll.specs.Masks.{slots_frame}
 use Rattle.nfcv_poll.specs.Finding.{is_strange_said, is_strange, rounds_begun}
-use Rattle.nfcv_poll.specs.Search.{most_passes, most_rounds, questions, with_id, said_by, said, begins_pass, fresh, fails, hushes, takes, is_silence, answers_left, hears_at, stage_request, due_request, over_at, Course, Begins, Runs, asked_for, course_step, course_next, finding_all}
+use Rattle.nfcv_poll.specs.Search.{most_passes, most_rounds, questions, with_id, said_by, said, begins_pass, fresh, fails, hushes, takes, is_silence, answers_left, hears_at, stage_request}
+use Rattle.nfcv_poll.specs.Search.{due_request, over_at, Course, Begins, Runs, asked_for, course_step, course_next, finding_all}
 use Rattle.nfcv_poll.specs.Tags.{IsOneOf, StepAsTags, tag_ids, noise_back, IsNoisyQuestion, AreNoisyAtLast, FoundIf, FindsTags}
 use Rattle.nfcv_poll.specs.declared.search.Said.TheVariants as told
 use Rattle.nfcv_poll.specs.declared.search.Search.{Search}
@@ -253,11 +255,13 @@ module _ {L : Type 0} (m : Machine L) (tag : L → T5State) (lit : L → Bool) (
       }) s
 
   -- what was told in a slot is the identifier of a tag
-  pub told_there : (found : List (List ℕ)) (w : World L) (f : Signal) (x y : Fate) (h : Heard) (id : List ℕ) → IsHeeded found f → Some h ≡ turn_heard (mute_air m) w f x y → Stay found w → said h ≡ told.Tag id → IsOneOf id ids
+  pub told_there : (found : List (List ℕ)) (w : World L) (f : Signal) (x y : Fate) (h : Heard) (id : List ℕ) → IsHeeded found f → Some h ≡ turn_heard (mute_air m) w f x y → Stay found w
+      → said h ≡ told.Tag id → IsOneOf id ids
   told_there found w f x y h id heeded e s is =
       let whole = told_whole h id is in
       let single : (mute_air m).joint w f ≡ Single whole.0 = whole_turn w f x y whole.0 (ap Some (sym whole.1.0) ∙ e) in
-      let tells : TellsOne ids whole.0 = single_first (filter_map (saying f) w.listeners) whole.0 (TellsOne ids) single (answers_tell m tag lit are ids f heeded.of_v found heeded.fares w.listeners s.placed) in
+      let tells : TellsOne ids whole.0 = single_first (filter_map (saying f) w.listeners) whole.0 (TellsOne ids) single
+      (answers_tell m tag lit are ids f heeded.of_v found heeded.fares w.listeners s.placed) in
       let reads : spelled_answer whole.0 ≡ Some (Present tells.0) = ap spelled_answer tells.2 ∙ answer_reads (Present tells.0) (each_one (λ i. length i ≡ id_size) ids tells.0 eight tells.1) in
       subst (λ i. IsOneOf i ids) (let d : Some (Present tells.0) ≡ Some (Present id) = sym reads ∙ whole.1.1 in cc) tells.1
 
@@ -309,7 +313,8 @@ module _ {L : Type 0} (m : Machine L) (tag : L → T5State) (lit : L → Bool) (
       all_found : (mute_air m).joint w inventory_all ≡ Nothing → Each (λ i. IsOneOf i found) ids
       all_found none =
           subst (Each (λ i. IsOneOf i found)) s.same
-          (each_id m tag (λ i. IsOneOf i found) w.listeners (quiet_ones w.listeners s.placed (none_in (saying inventory_all) w.listeners (nothing_said (filter_map (saying inventory_all) w.listeners) none))))
+          (each_id m tag (λ i. IsOneOf i found) w.listeners
+          (quiet_ones w.listeners s.placed (none_in (saying inventory_all) w.listeners (nothing_said (filter_map (saying inventory_all) w.listeners) none))))
         where
           nothing_said : (gs : List Signal) → joint gs ≡ Nothing → gs ≡ []
           nothing_said [] k = refl
@@ -325,8 +330,10 @@ module _ {L : Type 0} (m : Machine L) (tag : L → T5State) (lit : L → Bool) (
 
           quiet_ones : (ls : List L) → ArePlaced m tag lit are ids found ls → Each (λ l. saying inventory_all l ≡ None) ls → Each (λ l. m.tech l ≡ V → IsOneOf (tag l).id found) ls
           quiet_ones [] p n = tt
-          quiet_ones (l ∷ ls) p n =
-              ((λ v. quiet_one l (p.0 v) v (sym (are.answers l inventory_all v (p.0 v).lit') ∙ sym (said_tag m tag lit are ids inventory_all refl l v) ∙ n.0) (tag l).quiet refl), quiet_ones ls p.1 n.1)
+          quiet_ones (l ∷ ls) p n = (
+            (λ v. quiet_one l (p.0 v) v (sym (are.answers l inventory_all v (p.0 v).lit') ∙ sym (said_tag m tag lit are ids inventory_all refl l v) ∙ n.0) (tag l).quiet refl),
+            quiet_ones ls p.1 n.1,
+          )
 
       by_joint : (j : Joint) → (mute_air m).joint w inventory_all ≡ j → Some Silent ≡ heard_by Pass (joint_back j y)
           → Each (λ i. IsOneOf i found) ids ⊎ (1 ≤ 0 + noise_back (joint_back j y))
@@ -453,8 +460,10 @@ module _ {L : Type 0} (m : Machine L) (tag : L → T5State) (lit : L → Bool) (
             by_count false e = subst (λ n. Asked s.found n (turns later)) (omega (arith, few, far_number (asked + 1) 4 e)) one_more
 
         stands_next : (v : Bool) → Stands (if v then begins_pass (s.pass + 1) s else fails s faults.Disturbed) after (turns later)
-        stands_next true = (let t = stays_at heeded in stands_early s.found (begins_pass (s.pass + 1) s) after (turns later) (record { found' = refl; early = tt }) t.same t.placed k.known (plain_at heeded))
-        stands_next false = (let t = stays_at heeded in stands_early s.found (fails s faults.Disturbed) after (turns later) (record { found' = refl; early = tt }) t.same t.placed k.known (plain_at heeded))
+        stands_next true =
+            (let t = stays_at heeded in stands_early s.found (begins_pass (s.pass + 1) s) after (turns later) (record { found' = refl; early = tt }) t.same t.placed k.known (plain_at heeded))
+        stands_next false =
+            (let t = stays_at heeded in stands_early s.found (fails s faults.Disturbed) after (turns later) (record { found' = refl; early = tt }) t.same t.placed k.known (plain_at heeded))
 
         by_silence : (v : Bool) → is_silence h ≡ v → Stands (answers_left s asked v) after (turns later)
         by_silence true q = stands_silent q (nat_lt (asked + 1) questions) refl

@@ -12,7 +12,8 @@ use Rattle.nfca_poll.specs.Muted.{muted}
 use Rattle.nfca_poll.specs.declared.fault.PollFault.{PollFault}
 use Rattle.nfca_poll.specs.declared.fault.PollFault.TheVariants as faults
 use Rattle.nfca_poll.proofs.enquiries.EnquiryEnds.{Ends, ends, events_gained}
-use Rattle.nfcv_poll.specs.Search.{most_passes, questions, with_id, takes, said, begins_pass, fails, is_silence, answers_left, hears_at, hushes, over_at, Course, Begins, Runs, course_step, finding_all}
+use Rattle.nfcv_poll.specs.Search.{most_passes, questions, with_id, takes, said, begins_pass, fails, is_silence, answers_left, hears_at, hushes, over_at, Course, Begins, Runs, course_step}
+use Rattle.nfcv_poll.specs.Search.{finding_all}
 use Rattle.nfcv_poll.specs.declared.search.Said.{Said}
 use Rattle.nfcv_poll.specs.declared.search.Search.{Search}
 use Rattle.nfcv_poll.specs.declared.search.Stage.{Stage}

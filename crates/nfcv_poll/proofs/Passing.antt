@@ -146,7 +146,14 @@ module _ {L : Type 0} (m : Machine L) (tag : L → T5State) (lit : L → Bool) (
       → Behind x round slot path marks h v
   unmoved x round slot path marks w v h silent noise same k = record {
     pace = λ e. absurd (let N : Fate → Type 0 = λ z. 1 ≤ other_than_pass z in let no_ : 1 ≤ 0 = subst N e noise in omega (arith, no_));
-    within = record { actual = k.actual; current = k.current; of_path = k.of_path; own = k.own; at = subst (λ u. AreWith m tag lit are ids (mask_by k.actual) k.current u.listeners) (sym same) k.at; past = k.past };
+    within = record {
+      actual = k.actual;
+      current = k.current;
+      of_path = k.of_path;
+      own = k.own;
+      at = subst (λ u. AreWith m tag lit are ids (mask_by k.actual) k.current u.listeners) (sym same) k.at;
+      past = k.past;
+    };
     shared = λ c. absurd (no_clash h silent c);
     fresh = λ c. absurd (no_clash h silent c);
   }
@@ -194,7 +201,8 @@ module _ {L : Type 0} (m : Machine L) (tag : L → T5State) (lit : L → Bool) (
       (λ l k e. record { lit' = (k e).lit'; turn = begins_together n (tag l) }) ls h
 
   -- a request for the next slot
-  pub behind_next : (path : List ℕ) (marks : List Mark) (w : World L) (x y : Fate) (h : Heard) → tag_ids m tag w.listeners ≡ ids → Some h ≡ turn_heard (mute_air m) w next_frame x y → (k : Within path marks w)
+  pub behind_next : (path : List ℕ) (marks : List Mark) (w : World L) (x y : Fate) (h : Heard) → tag_ids m tag w.listeners ≡ ids → Some h ≡ turn_heard (mute_air m) w next_frame x y
+      → (k : Within path marks w)
       → Behind x k.actual (k.current + 1) path marks h (replay (mute_air m) w (turn_events (mute_air m) w next_frame x y))
   behind_next path marks w x y h same heard k = by_met (met w next_frame x y h heard)
     where
@@ -288,7 +296,8 @@ module _ {L : Type 0} (m : Machine L) (tag : L → T5State) (lit : L → Bool) (
       by_asked k (inr b) = inr b
 
   -- a slot
-  module _ (rounds : ℕ) (clashes masks : List Mask) (n : Mask) (slot : ℕ) (w v : World L) (h : Heard) (k : Working rounds clashes masks n slot w) (x : Fate) (round : List ℕ) (at : ℕ) (b : Behind x round at k.path k.marks h v) where
+  module _ (rounds : ℕ) (clashes masks : List Mask) (n : Mask) (slot : ℕ) (w v : World L) (h : Heard) (k : Working rounds clashes masks n slot w) (x : Fate) (round : List ℕ) (at : ℕ)
+      (b : Behind x round at k.path k.marks h v) where
     pub record Kept : Type 0 where
       pub more : Working rounds clashes masks n (slot + 1) v
       pub path' : more.path ≡ k.path
@@ -403,7 +412,8 @@ module _ {L : Type 0} (m : Machine L) (tag : L → T5State) (lit : L → Bool) (
             })
 
   -- the next round
-  module _ (rounds : ℕ) (clashes masks : List Mask) (n : Mask) (slot : ℕ) (w : World L) (k : Working rounds clashes masks n slot w) (n' : Mask) (rest : List Mask) (left : reverse clashes ++ masks ≡ n' ∷ rest) where
+  module _ (rounds : ℕ) (clashes masks : List Mask) (n : Mask) (slot : ℕ) (w : World L) (k : Working rounds clashes masks n slot w) (n' : Mask) (rest : List Mask)
+      (left : reverse clashes ++ masks ≡ n' ∷ rest) where
     waiting : map mask_by (reverse k.cs ++ k.ws) ≡ n' ∷ rest
     waiting =
         map_turned mask_by k.cs k.ws ∙ ap (λ x. reverse x ++ map mask_by k.ws) (sym k.clashes') ∙ ap (λ x. reverse clashes ++ x) (sym k.masks') ∙ left

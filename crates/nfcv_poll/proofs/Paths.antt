@@ -34,7 +34,8 @@ value_end (x ∷ p) k =
     let more : 2 ^ (4 * suc (length p)) ≡ 16 * 2 ^ (4 * length p) = four_more (length p) in
     let rest : value_of (p ++ k ∷ []) ≡ value_of p + k * 2 ^ (4 * length p) = value_end p k in
     let all : 16 * (value_of p + k * 2 ^ (4 * length p)) ≡ 16 * value_of p + k * (16 * 2 ^ (4 * length p)) = omega arith in
-    ap (λ v. x + 16 * v) rest ∙ ap (λ v. x + v) all ∙ ap (λ v. x + (16 * value_of p + k * v)) (sym more) ∙ (let e : x + (16 * value_of p + k * 2 ^ (4 * suc (length p))) ≡ (x + 16 * value_of p) + k * 2 ^ (4 * suc (length p)) = omega arith in e)
+    ap (λ v. x + 16 * v) rest ∙ ap (λ v. x + v) all ∙ ap (λ v. x + (16 * value_of p + k * v)) (sym more)
+    ∙ (let e : x + (16 * value_of p + k * 2 ^ (4 * suc (length p))) ≡ (x + 16 * value_of p) + k * 2 ^ (4 * suc (length p)) = omega arith in e)
 
 value_fits : (p : List ℕ) → Each (λ k. k < 16) p → value_of p < 2 ^ (4 * length p)
 value_fits [] h = omega arith

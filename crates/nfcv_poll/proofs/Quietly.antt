@@ -1,5 +1,6 @@
 -- What the requests of a pass without noise do to all tags: they look for each, and then tell each to stay quiet.
-use Rattle.std.proofs.Common.{◌≡◌, ◌⊎◌, inl, inr, ◌≤◌, ◌<◌, ℕ, zero, suc, ◌+◌, List, [], ◌∷◌, length, map, filter_map, replicate, take, drop, Bool, true, false, not, ◌==◌, ◌&&◌, nat_eq, if◌then◌else◌, Option, Some, None, refl, sym, ◌∙◌, ap, subst, arith}
+use Rattle.std.proofs.Common.{◌≡◌, ◌⊎◌, inl, inr, ◌≤◌, ◌<◌, ℕ, zero, suc, ◌+◌, List, [], ◌∷◌, length, map, filter_map, replicate, take, drop, Bool, true, false, not, ◌==◌, ◌&&◌, nat_eq, if◌then◌else◌}
+use Rattle.std.proofs.Common.{Option, Some, None, refl, sym, ◌∙◌, ap, subst, arith}
 use Rattle.std.specs.Cmp.Lexicographic.{pointwise}
 use Rattle.std.proofs.lemmas.List.{length-reverse}
 use Rattle.std.proofs.Math.Seq.{take-length}
@@ -139,7 +140,8 @@ hush_quiets t id eight why = by_names (names u (low_first id)) refl
     by_names false n = unnamed n why
     by_names true n = rw long refl
 
-pub still_next : (found : List (List ℕ)) (n : ℕ) (id : List ℕ) (t : T5State) → length id ≡ id_size → id_at found n ≡ Some id → Still found n t → Still found (n + 1) (t5_after t (command_frame (Quiet id)))
+pub still_next : (found : List (List ℕ)) (n : ℕ) (id : List ℕ) (t : T5State) → length id ≡ id_size → id_at found n ≡ Some id → Still found n t
+    → Still found (n + 1) (t5_after t (command_frame (Quiet id)))
 still_next found n id t eight at (inl q) = inl (hush_quiets t id eight (inl q))
 still_next found n id t eight at (inr p) = by_place (nat_eq n p.0) refl
   where
@@ -212,7 +214,8 @@ module _ {L : Type 0} (m : Machine L) (tag : L → T5State) (lit : L → Bool) (
   AreSought found path slot cs ws ls = Each (λ l. m.tech l ≡ V → Sought found path slot cs ws (tag l)) ls
 
   -- a slot
-  module _ (found : List (List ℕ)) (path : List ℕ) (slot : ℕ) (cs ws : List (List ℕ)) (h : Heard) (found' cs' ws' : List (List ℕ)) (learns : Learns ids found path slot cs ws h found' cs' ws') (is : IsPath path) (less : slot < 16)
+  module _ (found : List (List ℕ)) (path : List ℕ) (slot : ℕ) (cs ws : List (List ℕ)) (h : Heard) (found' cs' ws' : List (List ℕ)) (learns : Learns ids found path slot cs ws h found' cs' ws')
+      (is : IsPath path) (less : slot < 16)
       (fares : (t : T5State) → Fares found t (due_frame path (nat_eq slot 0))) where
     abbrev f : Signal
     f = due_frame path (nat_eq slot 0)

@@ -23,7 +23,8 @@ pub with_new : (is : List (List ℕ)) (id : List ℕ) → ((i : List ℕ) → id
 with_new [] id other = refl
 with_new (j ∷ js) id other = by_number (nat_lt (id_number j) (id_number id)) (nat_eq (id_number j) (id_number id)) refl (λ k. with_new js id k) other
   where
-    by_number : (v w : Bool) → nat_eq (id_number j) (id_number id) ≡ w → (((i : List ℕ) → id_at js (below js id) ≡ Some i → nat_eq (id_number i) (id_number id) ≡ false) → insert js (below js id) id ≡ with_id js id) → ((i : List ℕ) → id_at (j ∷ js) (if v then suc (below js id) else 0) ≡ Some i → nat_eq (id_number i) (id_number id) ≡ false)
+    by_number : (v w : Bool) → nat_eq (id_number j) (id_number id) ≡ w → (((i : List ℕ) → id_at js (below js id) ≡ Some i → nat_eq (id_number i) (id_number id) ≡ false)
+        → insert js (below js id) id ≡ with_id js id) → ((i : List ℕ) → id_at (j ∷ js) (if v then suc (below js id) else 0) ≡ Some i → nat_eq (id_number i) (id_number id) ≡ false)
         → insert (j ∷ js) (if v then suc (below js id) else 0) id ≡ (if v then j ∷ with_id js id else if w then j ∷ js else id ∷ j ∷ js)
     by_number true w e rest k = ap (λ is. j ∷ is) (rest k)
     by_number false true e rest k = absurd (let no_ : true ≡ false = sym e ∙ k j refl in cc)
@@ -49,7 +50,8 @@ id_at_there (i ∷ is) zero d h = refl
 id_at_there (i ∷ is) (suc n) d h = id_at_there is n d (omega (arith, h))
 
 -- those that are below in front of a place, and the one that isn't
-pub below_step : (is : List (List ℕ)) (id : List ℕ) (n : ℕ) (d : List ℕ) → n < length is → id_number (slice_index_or is n d) < id_number id → n + below (drop n is) id ≡ (n + 1) + below (drop (n + 1) is) id
+pub below_step : (is : List (List ℕ)) (id : List ℕ) (n : ℕ) (d : List ℕ) → n < length is → id_number (slice_index_or is n d) < id_number id
+    → n + below (drop n is) id ≡ (n + 1) + below (drop (n + 1) is) id
 below_step is id n d h less =
     let one : nat_lt (id_number (slice_index_or is n d)) (id_number id) ≡ true = grind (arith, less) in
     let first : below (drop n is) id ≡ suc (below (drop (n + 1) is) id) = ap (λ xs. below xs id) (drop_more is n d h) ∙ ap (λ v. if v then suc (below (drop (n + 1) is) id) else 0) one in

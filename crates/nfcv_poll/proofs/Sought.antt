@@ -1,5 +1,6 @@
 -- In a pass without noise each tag is found, or waits in a slot that clashed, or in one of the round that is still to come.
-use Rattle.std.proofs.Common.{◌≡◌, ◌⊎◌, inl, inr, ◌≤◌, ◌<◌, ℕ, zero, suc, ◌+◌, ◌*◌, List, [], ◌∷◌, ◌++◌, length, Bool, true, false, not, ◌==◌, ◌&&◌, nat_eq, nat_le, if◌then◌else◌, Some, None, refl, sym, ◌∙◌, ap, subst, arith}
+use Rattle.std.proofs.Common.{◌≡◌, ◌⊎◌, inl, inr, ◌≤◌, ◌<◌, ℕ, zero, suc, ◌+◌, ◌*◌, List, [], ◌∷◌, ◌++◌, length, Bool, true, false, not, ◌==◌, ◌&&◌, nat_eq, nat_le, if◌then◌else◌, Some, None, refl}
+use Rattle.std.proofs.Common.{sym, ◌∙◌, ap, subst, arith}
 use Rattle.nfc_base.specs.declared.event.Heard.{Heard}
 use Rattle.nfc_base.specs.declared.event.Heard.TheVariants.{Whole}
 use Rattle.nfc_base.specs.Signal.{Signal}
@@ -85,7 +86,8 @@ due_frame path true = slots_frame (mask_by path)
 due_frame path false = command_frame NextSlot
 
 -- one tag
-module _ (ids found : List (List ℕ)) (path : List ℕ) (slot : ℕ) (cs ws : List (List ℕ)) (h : Heard) (found' cs' ws' : List (List ℕ)) (learns : Learns ids found path slot cs ws h found' cs' ws') (is : IsPath path) (less : slot < 16) where
+module _ (ids found : List (List ℕ)) (path : List ℕ) (slot : ℕ) (cs ws : List (List ℕ)) (h : Heard) (found' cs' ws' : List (List ℕ)) (learns : Learns ids found path slot cs ws h found' cs' ws')
+    (is : IsPath path) (less : slot < 16) where
   goes_by : (t : T5State) (r : T5Turn) → length t.id ≡ id_size → Each (λ b. b < 256) t.id → InSlot t (slot_of t.id (4 * length path)) slot r
       → t.quiet ≡ false → BeginsWith path t.id → slot ≤ slot_of t.id (4 * length path) → IfSaid (ToldOf h) (sent r.answer) → Sought found' path (slot + 1) cs' ws' r.after
   goes_by t r long small i loud begins least heard = by_own (slot == own) refl
@@ -119,7 +121,8 @@ module _ (ids found : List (List ℕ)) (path : List ℕ) (slot : ℕ) (cs ws : L
               let tag_told : said h ≡ told.Tag t.id = ap said w ∙ ap said_by (answer_reads (Present t.id) long) in
               done (same (λ d. IsOneOf d found') (learns.tells t.id tag_told))
 
-  pub goes_sought : (t : T5State) → length t.id ≡ id_size → Each (λ b. b < 256) t.id → Fares found t (due_frame path (nat_eq slot 0)) → IfSaid (ToldOf h) (sent (t5_turn t (due_frame path (nat_eq slot 0))).answer)
+  pub goes_sought : (t : T5State) → length t.id ≡ id_size → Each (λ b. b < 256) t.id → Fares found t (due_frame path (nat_eq slot 0))
+      → IfSaid (ToldOf h) (sent (t5_turn t (due_frame path (nat_eq slot 0))).answer)
       → Sought found path slot cs ws t → Sought found' path (slot + 1) cs' ws' (t5_turn t (due_frame path (nat_eq slot 0))).after
   goes_sought t long small fares heard (done o) = done (subst (λ d. IsOneOf d found') (sym fares.id) (learns.keeps t.id o))
   goes_sought t long small fares heard (waits q o begins) = waits q (learns.later q o) (subst (BeginsWith q) (sym fares.id) begins)

@@ -1,5 +1,5 @@
--- What a search comes to over a crowd of Type 5 tags, under any fates (ISO/IEC 15693-3; how many they are at most is this
--- project's own).
+-- What a search comes to over a crowd of Type 5 tags, under any fates (ISO/IEC 15693-3; how many they are at most is
+-- this project's own).
 use Rattle.std.specs.Prelude.{◌≡◌, ◌≤◌, ◌<◌, ℕ, List, [], ◌∷◌, length, Bool, Result, Ok, Err}
 use Rattle.nfc_base.specs.Trace.{Turn}
 use Rattle.air_core.specs.World.{Machine}
@@ -33,7 +33,8 @@ pub record AreCrowd (ids : List (List ℕ)) : Type 0 where
 pub record CrowdV (ids : List (List ℕ)) (r : Result (List (List ℕ)) PollFault) (ts : List Turn) : Type 0 where
   pub never_bad : r ≡ Err BadAnswer → ⊥
   pub few : Each IsShort (passes ts)
-  pub quiet : (found : List (List ℕ)) → r ≡ Ok found → Each (λ p. noise_in p ≡ 0 → Each (λ i. IsOneOf i found) ids) (passes ts)
+  pub quiet : (found : List (List ℕ)) → r ≡ Ok found → Each (λ p. noise_in p ≡ 0 → Each (λ i. IsOneOf i found) ids)
+      (passes ts)
   pub disturbed : r ≡ Err Disturbed → Each (λ p. 1 ≤ noise_in p) (passes ts)
 
 -- So it is in a field whose NFC-V listeners step as the tags of a crowd.

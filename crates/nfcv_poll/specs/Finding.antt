@@ -1,5 +1,6 @@
 -- What a search for all Type 5 tags answers, by what was heard, over any listeners.
-use Rattle.std.specs.Prelude.{◌≡◌, ◌↔◌, ◌⊎◌, ◌<◌, ◌≤◌, ℕ, List, [], ◌∷◌, length, filter, Bool, true, false, ◌==◌, ◌&&◌, Option, Result, Ok, Err, Vec}
+use Rattle.std.specs.Prelude.{◌≡◌, ◌↔◌, ◌⊎◌, ◌<◌, ◌≤◌, ℕ, List, [], ◌∷◌, length, filter, Bool, true, false, ◌==◌, ◌&&◌}
+use Rattle.std.specs.Prelude.{Option, Result, Ok, Err, Vec}
 use Rattle.std.specs.List.{list_any}
 use Rattle.nfc_base.specs.Trace.{Turn, heard, by_heard}
 use Rattle.nfc_base.specs.declared.event.Heard.{Heard}

@@ -33,7 +33,8 @@ asks_next t = same_signal t.request (command_frame NextSlot)
 abbrev pub next_slots : List Turn → ℕ
 next_slots ts = length (filter asks_next ts)
 
--- how many rounds a pass over a crowd makes at most: one, and one for each of eight pairs at each of fifteen lengths of masks
+-- how many rounds a pass over a crowd makes at most: one, and one for each of eight pairs at each of fifteen lengths of
+-- masks
 abbrev pub crowd_rounds : ℕ
 crowd_rounds = 121
 

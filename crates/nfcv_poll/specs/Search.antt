@@ -1,6 +1,8 @@
 -- How a search for all Type 5 tags goes on by what is heard (ISO/IEC 15693-3). Passes, their number and the order of
 -- masks are this project's own.
-use Rattle.std.specs.Prelude.{ℕ, zero, suc, ◌+◌, List, [], ◌∷◌, ◌++◌, length, reverse, replicate, Bool, true, false, ◌&&◌, ◌||◌, not, nat_eq, nat_lt, nat_le, if◌then◌else◌, Option, Some, None, Result, Ok, Err}
+use Rattle.std.specs.Prelude.{ℕ, zero, suc, ◌+◌, List, [], ◌∷◌, ◌++◌, length, reverse, replicate, Bool, true, false}
+use Rattle.std.specs.Prelude.{◌&&◌, ◌||◌, not, nat_eq, nat_lt, nat_le, if◌then◌else◌, Option, Some, None, Result, Ok}
+use Rattle.std.specs.Prelude.{Err}
 use Rattle.nfc_base.specs.Signal.{Signal}
 use Rattle.nfc_base.specs.declared.event.Heard.{Heard}
 use Rattle.nfc_base.specs.declared.event.Heard.TheVariants.{Whole, Collided, Damaged, Silent}
@@ -209,4 +211,10 @@ course_ended Begins = None
 course_ended (Runs s) = is_over s
 
 abbrev pub finding_all : Enquiry Course (List (List ℕ))
-finding_all = record { start = Begins; light = course_lit; step = course_step; next = course_next; ended = course_ended }
+finding_all = record {
+  start = Begins;
+  light = course_lit;
+  step = course_step;
+  next = course_next;
+  ended = course_ended;
+}

@@ -1,5 +1,6 @@
 -- The Type 5 tags of a field, and what a search for them finds under any fates (ISO/IEC 15693-3).
-use Rattle.std.specs.Prelude.{◌≡◌, ◌⊎◌, ◌≤◌, ℕ, ◌+◌, List, [], ◌∷◌, ◌++◌, length, Bool, true, if◌then◌else◌, Option, Some, None, Result, Ok, Err}
+use Rattle.std.specs.Prelude.{◌≡◌, ◌⊎◌, ◌≤◌, ℕ, ◌+◌, List, [], ◌∷◌, ◌++◌, length, Bool, true, if◌then◌else◌, Option}
+use Rattle.std.specs.Prelude.{Some, None, Result, Ok, Err}
 use Rattle.std.specs.List.{filter_map}
 use Rattle.nfc_base.specs.declared.frame.Tech.TheVariants.{V}
 use Rattle.nfc_base.specs.Far.{Untouched}
@@ -24,7 +25,8 @@ abbrev pub IsOneOf : List ℕ → List (List ℕ) → Type 0
 IsOneOf i [] = ⊥
 IsOneOf i (j ∷ js) = (j ≡ i) ⊎ IsOneOf i js
 
--- The NFC-V listeners step as Type 5 tags, once light has come to them: which tag each is, and whether it is in the light.
+-- The NFC-V listeners step as Type 5 tags, once light has come to them: which tag each is, and whether it is in the
+-- light.
 pub record StepAsTags {L : Type 0} (m : Machine L) (tag : L → T5State) (lit : L → Bool) : Type 0 where
   pub woken : (l : L) → m.tech l ≡ V
       → (lit (m.woken (m.darkened l)) ≡ true) × (tag (m.woken (m.darkened l)) ≡ darkened (tag l))

@@ -16,8 +16,8 @@ use nfca_poll::{PollFault, ask};
 use std::alloc::Global;
 
 /// Finds all Type 5 tags of a field, ascending by identifier, in up to four passes from one reset on: in a pass each
-/// clash is asked for again with four bits more, the tags that were recorded are told to stay quiet, and it is asked who
-/// is left.
+/// clash is asked for again with four bits more, the tags that were recorded are told to stay quiet, and it is asked
+/// who is left.
 pub fn find_all_v<L: Listener>(
     alloc: Global,
     field: &mut Field<L>,

@@ -2,7 +2,8 @@
 
 ghost use Rattle.std.specs.Prelude.{◌≡◌, Err, None, OnOk, OnErr};
 ghost use Rattle.nfca_poll.specs.declared.fault.PollFault.TheVariants.{Memory};
-ghost use Rattle.nfcv_poll.specs.Search.{said, fresh, due_request, hushes, opens, leaves, is_spent, with_clash, takes, answers_left, hears, is_over};
+ghost use Rattle.nfcv_poll.specs.Search.{said, fresh, due_request, hushes, opens, leaves, is_spent, with_clash, takes};
+ghost use Rattle.nfcv_poll.specs.Search.{answers_left, hears, is_over};
 ghost use Rattle.nfcv_poll.specs.Masks.{extended};
 
 use crate::ids::Ids;
@@ -38,8 +39,8 @@ pub enum Stage {
     Fails(PollFault),
 }
 
-/// A search: its pass, counted from 1, how many rounds the pass has begun, the tags that were recorded so far, the masks
-/// whose rounds are still to be made, and the masks of the clashes of the round that is under way.
+/// A search: its pass, counted from 1, how many rounds the pass has begun, the tags that were recorded so far, the
+/// masks whose rounds are still to be made, and the masks of the clashes of the round that is under way.
 #[derive(Debug, Drop)]
 pub struct Search {
     pub pass: u8,

@@ -58,12 +58,14 @@ module _ {L : Type 0} (k : Ghosts L) (laws : Laws k) (own : List ℕ) where
           let none : step.reply ≡ None = (subst P u.quiet step.far).1 in
           let Q : L → Type 0 = IsAside k own in subst Q (sym (step.left ∙ ap (stepped_by k.machine l f) none)) u.aside
 
-      all_met : (ls : List L) (far : F) (said : List Signal) (ls' : List L) (far' : F) → AllByRecursion (IsAside k own) ls → HearAll k.machine restarts steps f ls far said ls' far' → AllByRecursion (IsAside k own) ls'
+      all_met : (ls : List L) (far : F) (said : List Signal) (ls' : List L) (far' : F) → AllByRecursion (IsAside k own) ls → HearAll k.machine restarts steps f ls far said ls' far'
+          → AllByRecursion (IsAside k own) ls'
       all_met [] far said ls' far' a h = let P : List L → Type 0 = AllByRecursion (IsAside k own) in subst P (sym h.1) tt
       all_met (l ∷ ls) far said ls' far' a h =
           let P : List L → Type 0 = AllByRecursion (IsAside k own) in subst P (sym h.8) (met_aside l far h.0 h.2 h.3 a.0 h.5, all_met ls h.3 h.1 h.4 far' a.1 h.6)
 
-      but_met : (place : ℕ) (ls : List L) (far : F) (said : List Signal) (ls' : List L) (far' : F) → AsideBut k own place ls → HearAll k.machine restarts steps f ls far said ls' far' → AsideBut k own place ls'
+      but_met : (place : ℕ) (ls : List L) (far : F) (said : List Signal) (ls' : List L) (far' : F) → AsideBut k own place ls → HearAll k.machine restarts steps f ls far said ls' far'
+          → AsideBut k own place ls'
       but_met place [] far said ls' far' a h = let P : List L → Type 0 = AsideBut k own place in subst P (sym h.1) tt
       but_met zero (l ∷ ls) far said ls' far' a h = let P : List L → Type 0 = AsideBut k own zero in subst P (sym h.8) (all_met ls h.3 h.1 h.4 far' a h.6)
       but_met (suc place) (l ∷ ls) far said ls' far' a h =
@@ -102,7 +104,8 @@ module _ {L F E : Type 0} (k : Ghosts L) (laws : Laws k) (linked : L → Bool) (
       let z = aside_turns k laws restarts steps own place old mid f h far half (whole seen f due) a turn in
       (z.0, all_aside ns (seen ++ n ∷ []) mid half new after rest z.1)
 
-pub speaks_aside : {L F E : Type 0} (k : Ghosts L) → Laws k → (restarts : F → List ℕ → F → Type 0) (steps : F → List ℕ → List ℕ → F → Type 0) (linked : L → Bool) (t : FarTable E) (view : F → Choosing E)
+pub speaks_aside : {L F E : Type 0} (k : Ghosts L) → Laws k → (restarts : F → List ℕ → F → Type 0) (steps : F → List ℕ → List ℕ → F → Type 0) (linked : L → Bool) (t : FarTable E)
+    (view : F → Choosing E)
     → SpeaksAside k restarts steps linked t view
 speaks_aside k laws restarts steps linked t view links fars kind next own place old new far after notes whole a s os =
     speaks_far k.machine linked t restarts steps next place view links fars kind old new far after notes s

@@ -56,7 +56,8 @@ module _ {L : Type 0} (m : Machine L) (r : List ℕ) (f : Signal) where
   -- the field behind such a turn
   abbrev pub behind_turn : Fate → Air L → Air L
   behind_turn Pass old =
-      brought m (after_event old (Request f Pass) (later_fates old.fates) (record { lit = true; listeners = map goes old.listeners })) (joint (filter_map says old.listeners)) (first_fate (later_fates old.fates))
+      brought m (after_event old (Request f Pass) (later_fates old.fates) (record { lit = true; listeners = map goes old.listeners })) (joint (filter_map says old.listeners))
+      (first_fate (later_fates old.fates))
   behind_turn Damage old = after_event old (Request f Damage) (later_fates old.fates) (requested m (world old) f Damage)
   behind_turn Lose old = after_event old (Request f Lose) (later_fates old.fates) (requested m (world old) f Lose)
   behind_turn Break old = after_event old (Request f Break) (later_fates old.fates) (requested m (world old) f Break)
@@ -78,13 +79,15 @@ module _ {L : Type 0} (m : Machine L) (r : List ℕ) (f : Signal) where
       let y : Fate = first_fate (later_fates old.fates) in
       let j : Joint = joint (filter_map says old.listeners) in
       brought_at (after_event old (Request f Pass) (later_fates old.fates) (record { lit = true; listeners = map goes old.listeners })) j y
-      ∙ ap (λ v. with_events (answering_air m r) (record { world = record { lit = v; listeners = map goes old.listeners }; queue = later_fates old.fates; trace = old.trace ++ Request f Pass ∷ [] }) (joint_events j y)) (sym lit)
+      ∙ ap (λ v. with_events (answering_air m r) (record { world = record { lit = v; listeners = map goes old.listeners }; queue = later_fates old.fates; trace = old.trace ++ Request f Pass ∷ [] })
+      (joint_events j y)) (sym lit)
       ∙ events-append (answering_air m r) (moment old) (Request f Pass ∷ []) (joint_events j y)
   behind_at Damage old lit = refl
   behind_at Lose old lit = refl
   behind_at Break old lit = refl
 
-  module _ {A : Type 0} (restarts : A → List ℕ → A → Type 0) (steps : A → List ℕ → List ℕ → A → Type 0) (before : List L) (l : L) (behind : List L) (p : EachQuiet m f before) (q : EachQuiet m f behind) where
+  module _ {A : Type 0} (restarts : A → List ℕ → A → Type 0) (steps : A → List ℕ → List ℕ → A → Type 0) (before : List L) (l : L) (behind : List L) (p : EachQuiet m f before)
+      (q : EachQuiet m f behind) where
     turn_by : (x : Fate) (old : Air L) (far far' : A) → old.listeners ≡ before ++ l ∷ behind → DidBy restarts steps x (hands_over m l f) r far far'
         → TurnBy m restarts steps x old f far (turn_heard (answering_air m r) (world old) f x (first_fate (later_fates old.fates))) (behind_turn x old) far'
     turn_by Pass old far far' split d = record {

@@ -16,7 +16,8 @@ use Rattle.nfc_base.specs.declared.event.Heard.{Heard}
 use Rattle.nfc_base.specs.declared.carrier.EndCause.TheVariants as cause
 use Rattle.air_core.specs.Joint.{Joint, Nothing, Single, Clashing}
 use Rattle.air_core.specs.World.{World, hands_over}
-use Rattle.air_core.specs.Conversation.{AirModel, Note, note, Next, Over, LightUp, Asks, receptions, EachDue, FatesFrom, queue_after, first_fate, later_fates, joint_events, joint_back, replay, turn_events, turn_heard, Move, Light, Ask, trace_of, Moment, with_events}
+use Rattle.air_core.specs.Conversation.{AirModel, Note, note, Next, Over, LightUp, Asks, receptions, EachDue, FatesFrom, queue_after, first_fate, later_fates, joint_events, joint_back, replay}
+use Rattle.air_core.specs.Conversation.{turn_events, turn_heard, Move, Light, Ask, trace_of, Moment, with_events}
 use Rattle.air_core.specs.Turn.{Air, world, moment, TurnIs}
 use Rattle.air_core.specs.laws.Turning.{receptions-append, events-append}
 use Rattle.air_core.specs.Quiet.{EachQuiet}
@@ -160,7 +161,8 @@ module _ {W : Type 0} (m : AirModel W) where
           let asked : next (receptions before) ≡ Asks f = (subst P e d).0 in absurd cc
 
   -- in the dark nothing happens, unless a reset is due
-  pub dark_none : (next : List Note → Next) (before : List Event) (f : Signal) (ks : List (Move m)) (w : W) (es : List Event) → es ≡ trace_of m w ks → EachDue next before es → next (receptions before) ≡ Asks f → m.lit w ≡ false → es ≡ []
+  pub dark_none : (next : List Note → Next) (before : List Event) (f : Signal) (ks : List (Move m)) (w : W) (es : List Event) → es ≡ trace_of m w ks → EachDue next before es
+      → next (receptions before) ≡ Asks f → m.lit w ≡ false → es ≡ []
   dark_none next before f [] w es e d asked dark = e
   dark_none next before f (Light ∷ ks) w es e d asked dark =
       let P : List Event → Type 0 = EachDue next before in
@@ -215,7 +217,8 @@ module _ {L F : Type 0} (k : Ghosts L) (laws : Laws k) (target : L → TargetSta
         known = known;
         far = far;
         so = so;
-        brings = ap (λ es. payloads first (frames_of (arrived ++ turns.arrived es))) (sym same) ∙ x.brings ∙ ap (λ z. handed ++ delivered_of out z) g.1 ∙ ap (λ z. handed ++ z) (flag_given r out far given g.0);
+        brings = ap (λ es. payloads first (frames_of (arrived ++ turns.arrived es))) (sym same) ∙ x.brings ∙ ap (λ z. handed ++ delivered_of out z) g.1
+            ∙ ap (λ z. handed ++ z) (flag_given r out far given g.0);
         there = there;
       }
 
@@ -224,7 +227,8 @@ module _ {L F : Type 0} (k : Ghosts L) (laws : Laws k) (target : L → TargetSta
   ends_on mid far i stage s o ns at known so =
       ends_at mid far o.said o.along.world.given s
       (on_turns k laws target begins (tells r) p.listener p.is i0 first handed arrived out false old mid p.place far i stage s o)
-      (given_far (tells r) false far out o.said o.along.world.given o.along.given) ns at known so (λ lit. (reached k p.listener o.heard, o.selected, subst (λ own. IsAlone k own mid.listeners p.place (reached k p.listener o.heard)) (sym (reached_same k laws p.listener o.heard)) o.alone))
+      (given_far (tells r) false far out o.said o.along.world.given o.along.given) ns at known so
+      (λ lit. (reached k p.listener o.heard, o.selected, subst (λ own. IsAlone k own mid.listeners p.place (reached k p.listener o.heard)) (sym (reached_same k laws p.listener o.heard)) o.alone))
 
   -- the walk from one moment on
   abbrev Walks : List (Move A0) → Type 0
@@ -289,7 +293,8 @@ module _ {L F : Type 0} (k : Ghosts L) (laws : Laws k) (target : L → TargetSta
 
     once : (q : List ℕ) → used ≡ Hands q → (q ≡ out) × (far ≡ false)
     once q e =
-        let d = hands k laws target begins (tells r) p.listener p.is i0 first handed arrived out false old mid p.place far i f bytes o q (use_delivers (target_table (target last) f).does q (sym uses ∙ e)) in
+        let d = hands k laws target begins (tells r) p.listener p.is i0 first handed arrived out false old mid p.place far i f bytes o q
+        (use_delivers (target_table (target last) f).does q (sym uses ∙ e)) in
         let g = given_far (tells r) false far out o.said o.along.world.given o.along.given in
         (d.0, flag_none r out far o.along.world.given g.0 (sym g.1 ∙ d.1))
 
@@ -380,7 +385,8 @@ module _ {L F : Type 0} (k : Ghosts L) (laws : Laws k) (target : L → TargetSta
       by_heard : (h : Option Heard) → TurnIs k.machine begins (tells r) mid f far h new chosen.to → stand (asks i0 out) later_notes ≡ noted (Waits i f) (note h) → End
       by_heard (Some h) turn e =
           by_does (init_table i h).state (init_table i h).does
-          (next_here k laws target begins (tells r) old i0 out first handed arrived p false never_stops never_stuck mid far i f bytes o chosen.to new h turn (init_table i h).state (init_table i h).does refl) e
+          (next_here k laws target begins (tells r) old i0 out first handed arrived p false never_stops never_stuck mid far i f bytes o chosen.to new h turn (init_table i h).state
+          (init_table i h).does refl) e
       by_heard None turn e =
           let l : LostPeer k target (tells r) p.listener i0 first handed arrived out false old new chosen.to =
           turn_lost k laws target begins (tells r) p.listener p.is i0 first handed arrived out false old mid p.place far i f bytes o chosen.to new turn in

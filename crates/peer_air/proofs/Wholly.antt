@@ -59,7 +59,8 @@ module _ {L F : Type 0} (k : Ghosts L) (laws : Laws k) (target : L → TargetSta
   reply_fits None v w g = omega arith
   reply_fits (Some r) v w g = g.2
 
-  module _ (given : Option (List ℕ)) (s : Standing) (x : ExchangeTurns k target old new p.listener i first handed arrived out given s) (v w : Choosing F) (g : Gave k target linked t out given v w) where
+  module _ (given : Option (List ℕ)) (s : Standing) (x : ExchangeTurns k target old new p.listener i first handed arrived out given s) (v w : Choosing F)
+      (g : Gave k target linked t out given v w) where
     abbrev r : List ℕ
     r = reply_in given
 
@@ -122,8 +123,10 @@ module _ {L F : Type 0} (k : Ghosts L) (laws : Laws k) (target : L → TargetSta
     -- in the dark nothing happens, at whatever place
     dark_exchange : (place : ℕ) → old.lit ≡ false → FarGoing k.machine linked t (dep_next i out) (moment old) (moment new) x.notes place os v w × (new.lit ≡ false)
     dark_exchange place dark =
-        let none : all ≡ [] = dark_none (answering_air k.machine r) (dep_next i out) [] (air_frame (request (begun i out).core)) going.turns.moves (world old) all going.turns.made going.each refl dark in
-        let at : moment old ≡ moment new = ap (λ z. record { world = world old; queue = old.fates; trace = z }) (sym (append-nil old.trace)) ∙ ap (λ z. with_events (answering_air k.machine r) (moment old) z) (sym none) ∙ sym going.moment in
+        let none : all ≡ [] = dark_none (answering_air k.machine r) (dep_next i out) [] (air_frame (request (begun i out).core)) going.turns.moves (world old) all going.turns.made going.each refl
+        dark in
+        let at : moment old ≡ moment new = ap (λ z. record { world = world old; queue = old.fates; trace = z }) (sym (append-nil old.trace))
+        ∙ ap (λ z. with_events (answering_air k.machine r) (moment old) z) (sym none) ∙ sym going.moment in
         let notes : [] ≡ x.notes = ap receptions (sym none) ∙ going.known in
         let before : payloads first (frames_of arrived) ≡ handed = ap (λ c. c.payloads) p.cut in
         let brings : handed ++ [] ≡ handed ++ delivered_of out given =
@@ -172,10 +175,12 @@ module _ {L F : Type 0} (k : Ghosts L) (laws : Laws k) (target : L → TargetSta
       let s = stands lit in
       let l : L = s.0 in
       let never : IsAside k (k.identifier l) peer.listener → ⊥ = λ z. (let off = (z.rests peer.is.tech).1 in let on = peer.selected in absurd cc) in
-      sym s.2.stands ∙ one_place k (k.identifier l) s.2.before l s.2.behind peer.alone.before peer.listener peer.alone.behind never s.2.first s.2.later (sym s.2.split ∙ peer.alone.split) ∙ peer.alone.stands
+      sym s.2.stands ∙ one_place k (k.identifier l) s.2.before l s.2.behind peer.alone.before peer.listener peer.alone.behind never s.2.first s.2.later (sym s.2.split ∙ peer.alone.split)
+      ∙ peer.alone.stands
 
   -- turns of its exchange, up to some moment
-  turns_at : (new : Air L) (given : Option (List ℕ)) (q : Standing) (x : ExchangeTurns k target a.air new peer.listener a.initiator a.first (brought a.first (since a)) (turns.arrived (since a)) s.out given q)
+  turns_at : (new : Air L) (given : Option (List ℕ)) (q : Standing) (x : ExchangeTurns k target a.air new peer.listener a.initiator a.first (brought a.first (since a)) (turns.arrived (since a)) s.out
+      given q)
       → (v w : Choosing F) → Gave k target linked t s.out given v w → (place : ℕ) → Stands k target linked t a.air place
       → FarGoing k.machine linked t (dep_next a.initiator s.out) (moment a.air) (moment new) x.notes place os v w × Stands k target linked t new place
   turns_at new given q x v w g place stands = go a.air.lit refl
@@ -193,7 +198,8 @@ module _ {L F : Type 0} (k : Ghosts L) (laws : Laws k) (target : L → TargetSta
             λ lit. (let dark = d.1 in absurd cc),
           )
 
-  swap_at : (given : Option (List ℕ)) → s.did ≡ did_with s.out given → TurnsOf k target a b peer s.out given → (v w : Choosing F) → Gave k target linked t s.out given v w → (place : ℕ) → Stands k target linked t a.air place
+  swap_at : (given : Option (List ℕ)) → s.did ≡ did_with s.out given → TurnsOf k target a b peer s.out given → (v w : Choosing F) → Gave k target linked t s.out given v w → (place : ℕ)
+      → Stands k target linked t a.air place
       → SwapTurn k target linked t a b s place os v w
   swap_at given did (q, x, at) v w g place stands =
       let z = turns_at b.air given q x v w g place stands in
@@ -217,7 +223,8 @@ module _ {L F A : Type 0} (k : Ghosts L) (laws : Laws k) (target : L → TargetS
       swap_at k laws target linked t links fars a b (record { out = out; did = [] }) x.begins x.peer x.short os None refl x.exchange (view far) (view after) (ap view moved) place stands
   moved_at a b out (Stepped payload reply ∷ []) x far after (mid, step, rest) whole place stands os =
       let G : List ℕ → Type 0 = λ z. Gave k target linked t z (Some reply) (view far) (view mid) in
-      let g : Gave k target linked t out (Some reply) (view far) (view mid) = subst G x.exchange.0 (kind.reply far payload reply mid step, kind.left far payload reply mid step, fits far payload reply mid step) in
+      let g : Gave k target linked t out (Some reply) (view far) (view mid) = subst G x.exchange.0
+      (kind.reply far payload reply mid step, kind.left far payload reply mid step, fits far payload reply mid step) in
       let s : Swap = record { out = out; did = Stepped payload reply ∷ [] } in
       let P : A → Type 0 = λ z. SwapTurn k target linked t a b s place os (view far) (view z) in
       subst P (sym rest)
@@ -235,19 +242,22 @@ module _ {L F A : Type 0} (k : Ghosts L) (laws : Laws k) (target : L → TargetS
       (mid, view half, z, by_swaps did mid b more half after rest whole place z.there os)
   by_swaps (Stopped payload ∷ did) a b by far after moved whole place stands os = absurd whole
 
-pub all_far : {L F A : Type 0} (k : Ghosts L) → Laws k → (target : L → TargetState) (linked : L → Bool) (t : FarTable F) (restarts : A → List ℕ → A → Type 0) (steps : A → List ℕ → List ℕ → A → Type 0) (stops : A → List ℕ → A → Type 0) (view : A → Choosing F)
+pub all_far : {L F A : Type 0} (k : Ghosts L) → Laws k → (target : L → TargetState) (linked : L → Bool) (t : FarTable F) (restarts : A → List ℕ → A → Type 0) (steps : A → List ℕ → List ℕ → A → Type 0)
+    (stops : A → List ℕ → A → Type 0) (view : A → Choosing F)
     → ((a : A) (payload reply : List ℕ) (b : A) → steps a payload reply b → length reply ≤ limit) → AllFar k target linked t restarts steps stops view
 all_far k laws target linked t restarts steps stops view fits links fars kind a b did by far after moved whole place stands os =
     by_swaps k laws target linked t links fars restarts steps stops view kind fits did a b by far after moved whole place stands os
 
-pub swaps_far : {L F A : Type 0} (k : Ghosts L) → Laws k → (target : L → TargetState) (linked : L → Bool) (t : FarTable F) (restarts : A → List ℕ → A → Type 0) (steps : A → List ℕ → List ℕ → A → Type 0) (stops : A → List ℕ → A → Type 0) (view : A → Choosing F)
+pub swaps_far : {L F A : Type 0} (k : Ghosts L) → Laws k → (target : L → TargetState) (linked : L → Bool) (t : FarTable F) (restarts : A → List ℕ → A → Type 0)
+    (steps : A → List ℕ → List ℕ → A → Type 0) (stops : A → List ℕ → A → Type 0) (view : A → Choosing F)
     → ((a : A) (payload reply : List ℕ) (b : A) → steps a payload reply b → length reply ≤ limit) → SwapsFar k target linked t restarts steps stops view
 swaps_far k laws target linked t restarts steps stops view fits links fars kind a b s x far after moved whole place stands os =
     moved_at k laws target linked t links fars restarts steps stops view kind fits a b s.out s.did x far after moved whole place stands os
 
 stop_far : {L F : Type 0} (k : Ghosts L) → Laws k → (target : L → TargetState) (linked : L → Bool) (t : FarTable F) → IsLinked k.machine linked → IsFarTable t
     → (a b : DepSeen L) (out : List ℕ) (did : List FarStep) (x : PayloadExchanged k target a b (record { out = out; did = did }))
-    → (payload : List ℕ) → did ≡ Stopped payload ∷ [] → (place : ℕ) → Stands k target linked t a.air place → (far : Choosing F) (os : List (Option F)) → SwapFront k target linked t a b out place os far
+    → (payload : List ℕ) → did ≡ Stopped payload ∷ [] → (place : ℕ) → Stands k target linked t a.air place → (far : Choosing F) (os : List (Option F))
+    → SwapFront k target linked t a b out place os far
 stop_far k laws target linked t links fars a b out [] x payload e place stands far os = absurd cc
 stop_far k laws target linked t links fars a b out (Stepped p reply ∷ did) x payload e place stands far os = absurd cc
 stop_far k laws target linked t links fars a b out (Stopped p ∷ []) x payload e place stands far os =
@@ -265,7 +275,8 @@ stop_far k laws target linked t links fars a b out (Stopped p ∷ []) x payload 
     }
 stop_far k laws target linked t links fars a b out (Stopped p ∷ d ∷ did) x payload e place stands far os = absurd cc
 
-pub stops_far : {L F A : Type 0} (k : Ghosts L) → Laws k → (target : L → TargetState) (linked : L → Bool) (t : FarTable F) (restarts : A → List ℕ → A → Type 0) (steps : A → List ℕ → List ℕ → A → Type 0) (stops : A → List ℕ → A → Type 0) (view : A → Choosing F)
+pub stops_far : {L F A : Type 0} (k : Ghosts L) → Laws k → (target : L → TargetState) (linked : L → Bool) (t : FarTable F) (restarts : A → List ℕ → A → Type 0)
+    (steps : A → List ℕ → List ℕ → A → Type 0) (stops : A → List ℕ → A → Type 0) (view : A → Choosing F)
     → StopsFar k target linked t restarts steps stops view
 stops_far k laws target linked t restarts steps stops view links fars a b s x payload e place stands far os =
     stop_far k laws target linked t links fars a b s.out s.did x payload e place stands far os

@@ -27,13 +27,15 @@ module _ {L : Type 0} (k : Ghosts L) where
     abbrev pub AsideTurns : Type 0
     AsideTurns =
         (own : List ℕ) (place : ℕ) (old new : Air L) (f : Signal) (heard : Option Heard) (far after : A)
-        → f ≡ whole_a f.bytes → AsideBut own place old.listeners → TurnIs k.machine restarts steps old f far heard new after
+        → f ≡ whole_a f.bytes → AsideBut own place old.listeners
+        → TurnIs k.machine restarts steps old f far heard new after
         → QuietBut k.machine f place old.listeners × AsideBut own place new.listeners
 
     -- So what a reader says in such frames, turn by turn, it says in the world with far ends at that place.
     abbrev pub SpeaksAside : {F : Type 0} → (L → Bool) → FarTable F → (A → Choosing F) → Type 0
     SpeaksAside {F} linked t view = IsLinked k.machine linked → IsFarTable t → IsOfTable restarts steps t view
         → (next : List Note → Next) (own : List ℕ) (place : ℕ) (old new : Air L) (far after : A) (notes : List Note)
-        → ((seen : List Note) (f : Signal) → next seen ≡ Asks f → f ≡ whole_a f.bytes) → AsideBut own place old.listeners
+        → ((seen : List Note) (f : Signal) → next seen ≡ Asks f → f ≡ whole_a f.bytes)
+        → AsideBut own place old.listeners
         → Speaks k.machine restarts steps next old far new after notes → (os : List (Option F))
         → FarGoing k.machine linked t next (moment old) (moment new) notes place os (view far) (view after)

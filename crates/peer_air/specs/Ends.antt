@@ -30,7 +30,8 @@ module _ {S : Type 0} (m : Serving S) where
 
   -- Each step of the code's end is one of the table: as many PDUs as fit, where no number is left to it.
   abbrev pub EndsStep : Type 0
-  EndsStep = IsOfTable (λ old general new. new ≡ restarted m old general) (Answers m 0) ends (λ l. record { end = l; numbers = [] })
+  EndsStep = IsOfTable (λ old general new. new ≡ restarted m old general) (Answers m 0) ends
+      (λ l. record { end = l; numbers = [] })
 
   -- and so is each of an end whose payloads have given numbers of PDUs
   abbrev pub CountedStep : Type 0

@@ -8,8 +8,8 @@ use Rattle.peer_air.specs.Ends.{ends}
 abbrev pub peer_ends : FarTable (LlcState ServerState)
 peer_ends = ends serving
 
--- What stays of a peer's end is what it accepted, with the SAPs that it came from, its table for get and its limit; its MIU, its
--- receive window, and what is bound.
+-- What stays of a peer's end is what it accepted, with the SAPs that it came from, its table for get and its limit; its
+-- MIU, its receive window, and what is bound.
 pub record KeepsPeer (l k : LlcState ServerState) : Type 0 where
   pub accepted : k.service.accepted ≡ l.service.accepted
   pub table : k.service.table ≡ l.service.table

@@ -1,6 +1,7 @@
 -- A far end that serves as this project's server does, and what a client's end and such a far end come to between
 -- calls.
-use Rattle.std.specs.Prelude.{◌≡◌, ◌<◌, ◌≤◌, ◌⊎◌, ℕ, zero, suc, ◌+◌, ◌%◌, ◌==◌, ◌||◌, Bool, true, false, List, [], ◌∷◌, ◌++◌, length, Option, IfSome, Some, None, is_some, if◌then◌else◌}
+use Rattle.std.specs.Prelude.{◌≡◌, ◌<◌, ◌≤◌, ◌⊎◌, ℕ, zero, suc, ◌+◌, ◌%◌, ◌==◌, ◌||◌, Bool, true, false, List, [], ◌∷◌}
+use Rattle.std.specs.Prelude.{◌++◌, length, Option, IfSome, Some, None, is_some, if◌then◌else◌}
 use Rattle.nfc_base.specs.Choosing.{Choosing}
 use Rattle.llcp_pdu.specs.General.{IsMiu}
 use Rattle.llcp_pdu.specs.Wire.{least_miu}
@@ -14,7 +15,8 @@ use Rattle.llcp_link.specs.Giving.{given, after_giving}
 use Rattle.llcp_link.specs.Answering.{Answers, Stops}
 use Rattle.llcp_link.specs.Counting.{AnswersCounted, StopsCounted}
 use Rattle.snep_core.specs.declared.fault.SnepFault.{SnepFault}
-use Rattle.snep_core.specs.declared.fault.SnepFault.TheVariants.{BadPeer, Excess, LinkEnded, Memory, NotFound, NotImplemented, Reject, SlotBusy}
+use Rattle.snep_core.specs.declared.fault.SnepFault.TheVariants.{BadPeer, Excess, LinkEnded, Memory, NotFound}
+use Rattle.snep_core.specs.declared.fault.SnepFault.TheVariants.{NotImplemented, Reject, SlotBusy}
 use Rattle.snep_core.specs.Server.{Received, ServerState, serving, session_of}
 use Rattle.snep_core.specs.Session.{Offer, fresh_session, value_of}
 use Rattle.nfc_base.specs.declared.carrier.EndCause.{EndCause}
@@ -22,7 +24,8 @@ use Rattle.snep_core.specs.declared.job.Refusal.TheVariants as refusals
 use Rattle.snep_core.specs.Calling.{fault_of}
 use Rattle.snep_core.specs.Jobs.{Done, Ending, Over, Refused}
 use Rattle.snep_core.specs.Payloads.{accepted_from}
-use Rattle.snep_core.specs.Slots.{NoMessage, Rejected, Slot, Staged, Success, is_staged_at, job_from, slot_at, slot_count}
+use Rattle.snep_core.specs.Slots.{NoMessage, Rejected, Slot, Staged, Success, is_staged_at, job_from, slot_at}
+use Rattle.snep_core.specs.Slots.{slot_count}
 use Rattle.snep_core.specs.Talk.{EndState, OnSap, client_sap, own_of, sap_of_slot, saps, server_sap, silent}
 
 abbrev pub PeerState : Type 0
@@ -42,8 +45,10 @@ pub record PeerStops (old : PeerState) (payload : List ℕ) (new : PeerState) : 
   pub accepted : new.service.accepted ≡ (steps serving old front).service.accepted
 
 -- In this view a far end is a peer: its steps are those of an end with a server.
-pub record IsPeer {A : Type 0} (steps : A → List ℕ → List ℕ → A → Type 0) (stops : A → List ℕ → A → Type 0) (view : A → PeerState) : Type 0 where
-  pub steps_so : (a : A) (payload reply : List ℕ) (b : A) → steps a payload reply b → PeerSteps (view a) payload reply (view b)
+pub record IsPeer {A : Type 0} (steps : A → List ℕ → List ℕ → A → Type 0) (stops : A → List ℕ → A → Type 0)
+    (view : A → PeerState) : Type 0 where
+  pub steps_so : (a : A) (payload reply : List ℕ) (b : A) → steps a payload reply b
+      → PeerSteps (view a) payload reply (view b)
   pub stops_so : (a : A) (payload : List ℕ) (b : A) → stops a payload b → PeerStops (view a) payload (view b)
 
 -- A connection between them, on which no PDU is on the way: what each end takes in a unit, and how many units; the
@@ -186,8 +191,10 @@ pub record Accords (client : EndState) (peer : PeerState) : Type 0 where
 
 -- What is said of a call where its client's end and its far end are so: it holds of each view in which the far end is a
 -- peer, and with which the client accords.
-abbrev pub AtPeers : {A : Type 0} → (A → List ℕ → List ℕ → A → Type 0) → (A → List ℕ → A → Type 0) → EndState → A → ((A → PeerState) → Type 0) → Type 0
-AtPeers steps stops client far says = (view : _ → PeerState) → IsPeer steps stops view → Accords client (view far) → says view
+abbrev pub AtPeers : {A : Type 0} → (A → List ℕ → List ℕ → A → Type 0) → (A → List ℕ → A → Type 0) → EndState → A
+    → ((A → PeerState) → Type 0) → Type 0
+AtPeers steps stops client far says = (view : _ → PeerState) → IsPeer steps stops view → Accords client (view far)
+    → says view
 
 -- Both ends of a link as it begins: each was restarted with general bytes of the other that it could read.
 pub record IsBegun (client : EndState) (peer : PeerState) : Type 0 where
@@ -261,7 +268,8 @@ PutFails sap m old SlotBusy client new = ⊥
 
 -- A value that was told, of at most so many bytes: it is the one that the peer's table has under the key, and nothing
 -- was accepted.
-pub record IsGot (sap most : ℕ) (key value : List ℕ) (old : PeerState) (client : EndState) (new : PeerState) : Type 0 where
+pub record IsGot (sap most : ℕ) (key value : List ℕ) (old : PeerState) (client : EndState) (new : PeerState)
+    : Type 0 where
   pub within : length key ≤ old.service.limit
   pub found : value_of key old.service.table ≡ Some value
   pub few : length value ≤ most
@@ -277,7 +285,8 @@ RefusesGet table most key Excess = (value : List ℕ) × (value_of key table ≡
 RefusesGet table most key _ = ⊥
 
 -- A get that was refused so: its key is within the limit, and nothing was accepted.
-pub record IsRefusedBy (why : SnepFault) (sap most : ℕ) (key : List ℕ) (old : PeerState) (client : EndState) (new : PeerState) : Type 0 where
+pub record IsRefusedBy (why : SnepFault) (sap most : ℕ) (key : List ℕ) (old : PeerState) (client : EndState)
+    (new : PeerState) : Type 0 where
   pub within : length key ≤ old.service.limit
   pub refuses : RefusesGet old.service.table most key why
   pub accepted : new.service.accepted ≡ old.service.accepted
@@ -335,15 +344,16 @@ WasAdded sap m old now =
     (length m ≤ old.service.limit) × (accepted_from sap now ≡ accepted_from sap old.service.accepted ++ m ∷ [])
 
 abbrev pub WasRejected : ℕ → List ℕ → PeerState → List Received → Type 0
-WasRejected sap m old now = (old.service.limit < length m) × (accepted_from sap now ≡ accepted_from sap old.service.accepted)
+WasRejected sap m old now = (old.service.limit < length m)
+    × (accepted_from sap now ≡ accepted_from sap old.service.accepted)
 
 -- How a put from a SAP ended: its message was accepted; or rejected.
 abbrev pub EndedFrom : ℕ → List ℕ → PeerState → Ending → List Received → Type 0
 EndedFrom sap m old e now =
     ((e ≡ Done) × WasAdded sap m old now) ⊎ ((e ≡ Refused refusals.Reject) × WasRejected sap m old now)
 
--- Messages put at once, each from a SAP of its own: from each of these SAPs nothing was added, or its message once; from the
--- others nothing, and nothing was taken away. So what was added is a shuffle of messages that were put.
+-- Messages put at once, each from a SAP of its own: from each of these SAPs nothing was added, or its message once;
+-- from the others nothing, and nothing was taken away. So what was added is a shuffle of messages that were put.
 abbrev pub AllAdd : List ℕ → (ℕ → List ℕ) → PeerState → List Received → Type 0
 AllAdd ours message old now =
     ((s : ℕ) → is_in s ours ≡ true → AddsFrom s (message s) old now)
@@ -351,7 +361,8 @@ AllAdd ours message old now =
     × ((more : List Received) × (now ≡ old.service.accepted ++ more))
 
 -- All were answered: each put came to what it should, and client and peer accord again.
-pub record PutsEnded (ours : List ℕ) (message : ℕ → List ℕ) (old : PeerState) (jobs : List OnSap) (client : EndState) (new : PeerState) : Type 0 where
+pub record PutsEnded (ours : List ℕ) (message : ℕ → List ℕ) (old : PeerState) (jobs : List OnSap) (client : EndState)
+    (new : PeerState) : Type 0 where
   pub saps_are : saps jobs ≡ ours
   pub each : (s : ℕ) → is_in s ours ≡ true
       → (e : Ending) × (job_from s jobs ≡ Some (Over e)) × EndedFrom s (message s) old e new.service.accepted
@@ -362,8 +373,10 @@ pub record PutsEnded (ours : List ℕ) (message : ℕ → List ℕ) (old : PeerS
   pub others : (s : ℕ) → is_in s ours ≡ false → is_some (conn_from s new.served) ≡ is_some (conn_from s old.served)
   pub accords : Accords client new
 
--- The call broke off as its jobs stood so: the far end is never given up, and what was answered before came to what it should.
-pub record PutsFailed (ours : List ℕ) (message : ℕ → List ℕ) (old : PeerState) (jobs : List OnSap) (e : SnepFault) (new : PeerState) : Type 0 where
+-- The call broke off as its jobs stood so: the far end is never given up, and what was answered before came to what it
+-- should.
+pub record PutsFailed (ours : List ℕ) (message : ℕ → List ℕ) (old : PeerState) (jobs : List OnSap) (e : SnepFault)
+    (new : PeerState) : Type 0 where
   pub why : EndCause
   pub fault : e ≡ fault_of why
   pub saps_are : saps jobs ≡ ours
@@ -371,7 +384,8 @@ pub record PutsFailed (ours : List ℕ) (message : ℕ → List ℕ) (old : Peer
       → (end : Ending) → job_from s jobs ≡ Some (Over end) → EndedFrom s (message s) old end new.service.accepted
   pub adds : AllAdd ours message old new.service.accepted
 
--- What a slot tells of the message that waited there is so: it was added; it wasn't, and is beyond the limit; or it waits still.
+-- What a slot tells of the message that waited there is so: it was added; it wasn't, and is beyond the limit; or it
+-- waits still.
 abbrev pub TellsOf : Slot → ℕ → List ℕ → PeerState → List Received → Type 0
 TellsOf Success sap m old now = WasAdded sap m old now
 TellsOf Rejected sap m old now = WasRejected sap m old now
@@ -383,15 +397,18 @@ abbrev pub SlotTells : ℕ → Slot → Slot → PeerState → List Received →
 SlotTells sap (Staged m) told old now = TellsOf told sap m old now
 SlotTells sap before told old now = (told ≡ before) × (accepted_from sap now ≡ accepted_from sap old.service.accepted)
 
--- What a run adds: of each slot's SAP nothing, or once the message that waited there, as its slot then tells; from no other SAP
--- anything, and nothing is taken away.
+-- What a run adds: of each slot's SAP nothing, or once the message that waited there, as its slot then tells; from no
+-- other SAP anything, and nothing is taken away.
 pub record RunAdds (slots told : List Slot) (old new : PeerState) : Type 0 where
-  pub each : (k : ℕ) → k < slot_count → SlotTells (sap_of_slot k) (slot_at slots k) (slot_at told k) old new.service.accepted
-  pub others : (s : ℕ) → (IsClientSap s → ⊥) → accepted_from s new.service.accepted ≡ accepted_from s old.service.accepted
+  pub each : (k : ℕ) → k < slot_count → SlotTells (sap_of_slot k) (slot_at slots k) (slot_at told k) old
+      new.service.accepted
+  pub others : (s : ℕ) → (IsClientSap s → ⊥) → accepted_from s new.service.accepted
+      ≡ accepted_from s old.service.accepted
   pub more : List Received
   pub grew : new.service.accepted ≡ old.service.accepted ++ more
 
--- A run over a peer: all was answered, the connections of slots where no message waited stay, and client and peer accord again.
+-- A run over a peer: all was answered, the connections of slots where no message waited stay, and client and peer
+-- accord again.
 pub record IsRun (slots told : List Slot) (old : PeerState) (client : EndState) (new : PeerState) : Type 0 where
   pub adds : RunAdds slots told old new
   pub limit : new.service.limit ≡ old.service.limit

@@ -4,7 +4,8 @@ use Rattle.nfc_base.specs.Choosing.{first_number}
 use Rattle.nfc_base.specs.declared.carrier.EndCause.{EndCause}
 use Rattle.nfc_base.specs.declared.carrier.EndCause.TheVariants as cause
 use Rattle.nfc_base.specs.declared.carrier.LinkEnd.{LinkEnd}
-use Rattle.nfc_base.specs.Links.{CarrierView, FarStep, Stepped, FarMoved, SwapDone, SwapFailed, Swapped, AskedBy, BySwaps, step_payload}
+use Rattle.nfc_base.specs.Links.{CarrierView, FarStep, Stepped, FarMoved, SwapDone, SwapFailed, Swapped, AskedBy}
+use Rattle.nfc_base.specs.Links.{BySwaps, step_payload}
 use Rattle.llcp_link.specs.Taking.{taken_from}
 use Rattle.llcp_link.specs.Giving.{given, after_giving}
 use Rattle.snep_core.specs.declared.fault.SnepFault.{SnepFault}
@@ -13,14 +14,16 @@ use Rattle.snep_core.specs.declared.fault.SnepFault.TheVariants as faults
 use Rattle.snep_core.specs.Jobs.{Over, Refused}
 use Rattle.snep_core.specs.Listening.{all_awaiting}
 use Rattle.snep_core.specs.Slots.{NoneStaged, Slot, all_puts, dropped, noted}
-use Rattle.snep_core.specs.Talk.{EndState, Step, Goes, Ends, GivesUp, ComesTo, Working, CameTo, OnSap, begins_all, numbers_behind, one_on, ready, replied, silent}
+use Rattle.snep_core.specs.Talk.{EndState, Step, Goes, Ends, GivesUp, ComesTo, Working, CameTo, OnSap, begins_all}
+use Rattle.snep_core.specs.Talk.{numbers_behind, one_on, ready, replied, silent}
 use Rattle.snep_core.specs.declared.job.Refusal.{Refusal}
 use Rattle.snep_core.specs.declared.job.Refusal.TheVariants as refusals
 use Rattle.snep_core.specs.declared.job.Awaiting.{Awaiting}
 use Rattle.snep_core.specs.declared.job.Turn.{Turn}
 use Rattle.snep_core.specs.declared.job.Turn.TheVariants.{Ended, Went, GaveUp}
 
--- What contracts see of a client's end, and of a client: its end of the link, whether want of memory ended a call, and its slots.
+-- What contracts see of a client's end, and of a client: its end of the link, whether want of memory ended a call, and
+-- its slots.
 pub record ClientEndState : Type 0 where
   pub llc : EndState
   pub spent : Bool
@@ -68,16 +71,19 @@ IsStep step (Ended jobs) l = step ≡ Ends jobs l
 IsStep step (Went jobs idle) l = step ≡ Goes (record { llc = l; jobs = jobs; idle = idle })
 IsStep step GaveUp l = (came : List CameTo) × (step ≡ gives_up came l)
 
--- What a failed run leaves of the slots: what was answered before is told, and a far end that is given up leaves no message.
+-- What a failed run leaves of the slots: what was answered before is told, and a far end that is given up leaves no
+-- message.
 abbrev pub slots_left : SnepFault → List Slot → List Slot
 slots_left BadPeer slots = dropped slots
 slots_left _ slots = slots
 
-module _ {C A : Type 0} (seen : C → CarrierView) (swaps : C → List ℕ → List FarStep → C → Type 0) (steps : A → List ℕ → List ℕ → A → Type 0)
+module _ {C A : Type 0} (seen : C → CarrierView) (swaps : C → List ℕ → List FarStep → C → Type 0)
+    (steps : A → List ℕ → List ℕ → A → Type 0)
     (stops : A → List ℕ → A → Type 0) where
   -- A call came from one step to another over the link: what was handed over, each payload with as many PDUs as the
   -- next of these numbers says and in one swap, and what the far end did. The link is over where it was over before.
-  pub record Talks (numbers : List ℕ) (from : Step) (link : C) (far : A) (to : Step) (now : C) (after : A) : Type 0 where
+  pub record Talks (numbers : List ℕ) (from : Step) (link : C) (far : A) (to : Step) (now : C) (after : A)
+      : Type 0 where
     pub did : List FarStep
     pub told : ComesTo numbers from did to
     pub handed : (seen now).handed ≡ (seen link).handed ++ payloads did
@@ -88,7 +94,8 @@ module _ {C A : Type 0} (seen : C → CarrierView) (swaps : C → List ℕ → L
 
   -- One exchange: the next payload, with so many PDUs, was answered, and the reply taken. Between the two these jobs
   -- stood so.
-  pub record ExchangedOnce (count : ℕ) (jobs : List OnSap) (old : EndState) (link : C) (far : A) (all : List Awaiting) (new : EndState) (now : C) (after : A) : Type 0 where
+  pub record ExchangedOnce (count : ℕ) (jobs : List OnSap) (old : EndState) (link : C) (far : A) (all : List Awaiting)
+      (new : EndState) (now : C) (after : A) : Type 0 where
     pub reply : List ℕ
     pub swap : SwapDone steps (seen link) (seen now) (given silent count old) reply far after
     pub swapped : Swapped swaps steps stops link (given silent count old) far now after
@@ -109,7 +116,8 @@ module _ {C A : Type 0} (seen : C → CarrierView) (swaps : C → List ℕ → L
   Turned count w link far (Ended jobs) new now after = TurnedTo count w link far (Ends jobs new) now after
   Turned count w link far (Went jobs idle) new now after =
       TurnedTo count w link far (Goes (record { llc = new; jobs = jobs; idle = idle })) now after
-  Turned count w link far GaveUp new now after = (came : List CameTo) × TurnedTo count w link far (gives_up came new) now after
+  Turned count w link far GaveUp new now after = (came : List CameTo)
+      × TurnedTo count w link far (gives_up came new) now after
 
   -- Nothing was handed over: memory was wanting before.
   pub record Rests (link : C) (far : A) (e : SnepFault) (now : C) (after : A) : Type 0 where
@@ -118,7 +126,8 @@ module _ {C A : Type 0} (seen : C → CarrierView) (swaps : C → List ℕ → L
     pub far_is : after ≡ far
 
   -- The link was over. The client's end gave its next payload, and nobody took it.
-  pub record IsOver (count : ℕ) (old : EndState) (link : C) (far : A) (e : SnepFault) (new : EndState) (now : C) (after : A) : Type 0 where
+  pub record IsOver (count : ℕ) (old : EndState) (link : C) (far : A) (e : SnepFault) (new : EndState) (now : C)
+      (after : A) : Type 0 where
     pub left : new ≡ after_giving silent count old
     pub why : EndCause
     pub over : (seen link).over ≡ Some why
@@ -128,7 +137,8 @@ module _ {C A : Type 0} (seen : C → CarrierView) (swaps : C → List ℕ → L
     pub far_is : after ≡ far
 
   -- The swap of the next payload failed. The client's end gave it, and heard nothing.
-  pub record Fails (count : ℕ) (old : EndState) (link : C) (far : A) (e : SnepFault) (new : EndState) (now : C) (after : A) : Type 0 where
+  pub record Fails (count : ℕ) (old : EndState) (link : C) (far : A) (e : SnepFault) (new : EndState) (now : C)
+      (after : A) : Type 0 where
     pub left : new ≡ after_giving silent count old
     pub why : LinkEnd
     pub fault : e ≡ fault_of why.cause
@@ -137,7 +147,8 @@ module _ {C A : Type 0} (seen : C → CarrierView) (swaps : C → List ℕ → L
         (AskedBy why.answered why.cause (given silent count old))
 
   -- The next payload was answered, and as the reply was taken memory was wanting.
-  pub record Unread (count : ℕ) (old : EndState) (link : C) (far : A) (e : SnepFault) (now : C) (after : A) : Type 0 where
+  pub record Unread (count : ℕ) (old : EndState) (link : C) (far : A) (e : SnepFault) (now : C) (after : A)
+      : Type 0 where
     pub reply : List ℕ
     pub fault : e ≡ Memory
     pub swap : SwapDone steps (seen link) (seen now) (given silent count old) reply far after
@@ -151,7 +162,8 @@ module _ {C A : Type 0} (seen : C → CarrierView) (swaps : C → List ℕ → L
       ⊎ (Fails count old link far e new now after ⊎ Unread count old link far e now after)
 
   -- A call went on so far, and was cut off by its link or by want of memory.
-  pub record Breaks (numbers : List ℕ) (from : Step) (link : C) (far : A) (e : SnepFault) (new : EndState) (now : C) (after : A) : Type 0 where
+  pub record Breaks (numbers : List ℕ) (from : Step) (link : C) (far : A) (e : SnepFault) (new : EndState) (now : C)
+      (after : A) : Type 0 where
     pub at : Working
     pub mid : C
     pub mid_far : A
@@ -161,17 +173,20 @@ module _ {C A : Type 0} (seen : C → CarrierView) (swaps : C → List ℕ → L
   -- A call that failed: the far end was given up, or it was cut off.
   abbrev pub FailsBy : List ℕ → Step → C → A → SnepFault → EndState → C → A → Type 0
   FailsBy numbers from link far e new now after =
-      ((e ≡ BadPeer) × (came : List CameTo) × Talks numbers from link far (gives_up came new) now after) ⊎ Breaks numbers from link far e new now after
+      ((e ≡ BadPeer) × (came : List CameTo) × Talks numbers from link far (gives_up came new) now after)
+      ⊎ Breaks numbers from link far e new now after
 
   -- The reply to a payload gave the far end up.
-  pub record GivesUpThere (count : ℕ) (w : Working) (link : C) (far : A) (e : SnepFault) (new : EndState) (now : C) (after : A) : Type 0 where
+  pub record GivesUpThere (count : ℕ) (w : Working) (link : C) (far : A) (e : SnepFault) (new : EndState) (now : C)
+      (after : A) : Type 0 where
     pub fault : e ≡ BadPeer
     pub came : List CameTo
     pub turned : TurnedTo count w link far (gives_up came new) now after
 
-  -- A call that failed as its jobs stood so: by the next reply the far end was given up, or the call was cut off before one was
-  -- taken.
-  pub record FailsAt (numbers : List ℕ) (from : Step) (link : C) (far : A) (jobs : List OnSap) (e : SnepFault) (new : EndState) (now : C) (after : A) : Type 0 where
+  -- A call that failed as its jobs stood so: by the next reply the far end was given up, or the call was cut off before
+  -- one was taken.
+  pub record FailsAt (numbers : List ℕ) (from : Step) (link : C) (far : A) (jobs : List OnSap) (e : SnepFault)
+      (new : EndState) (now : C) (after : A) : Type 0 where
     pub at : Working
     pub stood : at.jobs ≡ jobs
     pub mid : C
@@ -181,20 +196,23 @@ module _ {C A : Type 0} (seen : C → CarrierView) (swaps : C → List ℕ → L
         ⊎ IsCut (first_number (numbers_behind talks.did numbers)) (ready at).llc mid mid_far e new now after
 
   -- A run of all messages that wait, from these slots: each was answered, and its slot says how.
-  pub record RunsTo (numbers : List ℕ) (old : EndState) (slots : List Slot) (link : C) (far : A) (new : EndState) (told : List Slot) (now : C) (after : A) : Type 0 where
+  pub record RunsTo (numbers : List ℕ) (old : EndState) (slots : List Slot) (link : C) (far : A) (new : EndState)
+      (told : List Slot) (now : C) (after : A) : Type 0 where
     pub jobs : List OnSap
     pub talks : Talks numbers (begins_all old (all_puts slots)) link far (Ends jobs new) now after
     pub told_is : told ≡ noted jobs slots
     pub finished : NoneStaged told
 
   -- and a run that failed
-  pub record RunFailsAt (numbers : List ℕ) (old : EndState) (slots : List Slot) (link : C) (far : A) (e : SnepFault) (new : EndState) (told : List Slot) (now : C) (after : A) : Type 0 where
+  pub record RunFailsAt (numbers : List ℕ) (old : EndState) (slots : List Slot) (link : C) (far : A) (e : SnepFault)
+      (new : EndState) (told : List Slot) (now : C) (after : A) : Type 0 where
     pub jobs : List OnSap
     pub fails : FailsAt numbers (begins_all old (all_puts slots)) link far jobs e new now after
     pub told_is : told ≡ slots_left e (noted jobs slots)
 
   -- A call whose request, on the connection from a SAP, was refused.
-  pub record IsRefused (sap : ℕ) (numbers : List ℕ) (from : Step) (link : C) (far : A) (e : SnepFault) (new : EndState) (now : C) (after : A) : Type 0 where
+  pub record IsRefused (sap : ℕ) (numbers : List ℕ) (from : Step) (link : C) (far : A) (e : SnepFault) (new : EndState)
+      (now : C) (after : A) : Type 0 where
     pub why : Refusal
     pub fault : e ≡ refused_by why
     pub talks : Talks numbers from link far (Ends (one_on sap (Over (Refused why))) new) now after

@@ -26,7 +26,8 @@ pub record PutInUnits : Type 0 where
 abbrev pub IsJob : ℕ → PutInUnits → Type 0
 IsJob limit j =
     (length j.message < 2 ^ 32) × (((length j.message ≤ limit) × IsCut (put_bytes j.message) j.units)
-    ⊎ ((limit < length j.message) × ((u : List ℕ) × (later : List (List ℕ)) × (j.units ≡ u ∷ []) × IsCut (put_bytes j.message) (u ∷ later))))
+    ⊎ ((limit < length j.message) × ((u : List ℕ) × (later : List (List ℕ)) × (j.units ≡ u ∷ [])
+    × IsCut (put_bytes j.message) (u ∷ later))))
 
 abbrev pub AreJobs : ℕ → List PutInUnits → Type 0
 AreJobs limit [] = Unit {0}
@@ -50,15 +51,17 @@ pub record PutsFront (limit : ℕ) (js : List PutInUnits) (came : List (List ℕ
 
 abbrev pub FrontsPut : Type 0
 FrontsPut =
-    (limit : ℕ) (js : List PutInUnits) (came more : List (List ℕ)) → AreJobs limit js → units_of_puts js ≡ came ++ more → PutsFront limit js came
+    (limit : ℕ) (js : List PutInUnits) (came more : List (List ℕ)) → AreJobs limit js → units_of_puts js ≡ came ++ more
+    → PutsFront limit js came
 
--- Where all units of the jobs before came, and some first of the last one's: the messages before that fit were put, and the last
--- one's exactly where it came whole and fits.
+-- Where all units of the jobs before came, and some first of the last one's: the messages before that fit were put, and
+-- the last one's exactly where it came whole and fits.
 abbrev pub PutsLast : ℕ → List PutInUnits → PutInUnits → List (List ℕ) → List (List ℕ) → Type 0
 PutsLast limit done last part [] = Puts limit (units_of_puts done ++ part) (fit limit done ++ fit limit (last ∷ []))
 PutsLast limit done last part (v ∷ more) = Puts limit (units_of_puts done ++ part) (fit limit done)
 
 abbrev pub LastPut : Type 0
 LastPut =
-    (limit : ℕ) (done : List PutInUnits) (last : PutInUnits) (part more : List (List ℕ)) → AreJobs limit done → IsJob limit last → last.units ≡ part ++ more
+    (limit : ℕ) (done : List PutInUnits) (last : PutInUnits) (part more : List (List ℕ)) → AreJobs limit done
+    → IsJob limit last → last.units ≡ part ++ more
     → PutsLast limit done last part more

@@ -1,5 +1,5 @@
--- What the first unit of a request is to a server, whatever it did before (NFC Forum SNEP 1.0; the limit and the answers to
--- malformed requests are this project's own).
+-- What the first unit of a request is to a server, whatever it did before (NFC Forum SNEP 1.0; the limit and the
+-- answers to malformed requests are this project's own).
 use Rattle.std.specs.Prelude.{ℕ, ◌-◌, ◌/◌, ◌==◌, nat_lt, List, ◌∷◌, length, drop, if◌then◌else◌}
 use Rattle.snep_core.specs.declared.message.Answer.TheVariants as answers
 use Rattle.snep_core.specs.declared.message.Request.{Request}
@@ -12,8 +12,8 @@ use Rattle.snep_core.specs.Message.{header_size, continue_code, get_code, put_co
 abbrev pub info_of : List ℕ → List ℕ
 info_of unit = drop header_size unit
 
--- A request that carries information, by how long this is said to be and how much of it is there. Where some is still to come, it is
--- said how much.
+-- A request that carries information, by how long this is said to be and how much of it is there. Where some is still
+-- to come, it is said how much.
 abbrev pub by_size : Request → ℕ → ℕ → First
 by_size request said there =
     if nat_lt said there then Says answers.BadRequest

@@ -1,6 +1,7 @@
--- What a job of a client comes to by the units that the server sends it (NFC Forum SNEP 1.0; that a far end is at fault which
--- sends anything else is this project's own).
-use Rattle.std.specs.Prelude.{ℕ, ◌/◌, ◌==◌, ◌&&◌, nat_lt, Bool, true, false, List, [], ◌∷◌, ◌++◌, length, Option, Some, None, option_map, if◌then◌else◌}
+-- What a job of a client comes to by the units that the server sends it (NFC Forum SNEP 1.0; that a far end is at fault
+-- which sends anything else is this project's own).
+use Rattle.std.specs.Prelude.{ℕ, ◌/◌, ◌==◌, ◌&&◌, nat_lt, Bool, true, false, List, [], ◌∷◌, ◌++◌, length, Option, Some}
+use Rattle.std.specs.Prelude.{None, option_map, if◌then◌else◌}
 use Rattle.snep_core.specs.declared.message.Answer.TheVariants as answers
 pub use Rattle.snep_core.specs.declared.job.Job.{Job}
 pub use Rattle.snep_core.specs.declared.job.Job.TheVariants.{Begins, Waits, Sends, Asks, Collects, Looks, Closes, Over}
@@ -14,7 +15,8 @@ use Rattle.snep_core.specs.First.{info_of}
 
 -- the code of an answer, and how long its information is said to be
 abbrev pub head_of : List ℕ → Option Head
-head_of (v ∷ code ∷ a ∷ b ∷ c ∷ d ∷ info) = if v / 16 == 1 then Some (record { code = code; said = number a b c d }) else None
+head_of (v ∷ code ∷ a ∷ b ∷ c ∷ d ∷ info) = if v / 16 == 1 then Some (record { code = code; said = number a b c d })
+    else None
 head_of _ = None
 
 -- no information is said, and none is there
@@ -41,7 +43,8 @@ abbrev pub waiting_told : Option ℕ → List ℕ → List ℕ → Option Head �
 waiting_told most rest unit None = None
 waiting_told most rest unit (Some h) =
     if is_bare h unit
-    then (if h.code == answer_code answers.Continue then Some (Sends most rest) else option_map ended_by (refusal_by_code most h.code))
+    then (if h.code == answer_code answers.Continue then Some (Sends most rest)
+    else option_map ended_by (refusal_by_code most h.code))
     else None
 
 -- A value of so many bytes, of which these came: it is whole, or it goes on so. More bytes than were said are a fault.
@@ -78,8 +81,8 @@ told_on (Some job) (u ∷ us) = told_on (told job u) us
 abbrev pub job_told : Job → List (List ℕ) → Option Job
 job_told job units = told_on (Some job) units
 
--- What a job comes to by units, where one of this end's waited to be given as they came, or none did. While one waits, each that
--- comes is a fault: it answers what its sender doesn't have.
+-- What a job comes to by units, where one of this end's waited to be given as they came, or none did. While one waits,
+-- each that comes is a fault: it answers what its sender doesn't have.
 abbrev pub told_in : Bool → Job → List (List ℕ) → Option Job
 told_in waiting job [] = Some job
 told_in waiting job (u ∷ us) = if waiting then None else job_told job (u ∷ us)

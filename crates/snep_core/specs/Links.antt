@@ -37,8 +37,8 @@ pub record OneMore (limit : ℕ) (puts : List Put) (accepted : List (List ℕ)) 
   pub last : puts ≡ before ++ record { message = message; told = Unanswered } ∷ []
   pub more : accepted ≡ told_taken limit puts ++ message ∷ []
 
--- What is accepted is the first of the messages that were put and are within the limit, and covers all that were told to be
--- taken, by at most one more.
+-- What is accepted is the first of the messages that were put and are within the limit, and covers all that were told
+-- to be taken, by at most one more.
 pub record LinkAccepts (limit : ℕ) (puts : List Put) (accepted : List (List ℕ)) : Type 0 where
   pub fits : IsPrefix accepted (fitting limit puts)
   pub covers : IsPrefix (told_taken limit puts) accepted
@@ -72,10 +72,12 @@ AreToldRight limit (a ∷ more) = IsToldRight limit a × AreToldRight limit more
 abbrev pub IsToldSo : ℕ → Answered → List (List ℕ) → Type 0
 IsToldSo limit a more = ((more ≡ []) × IsToldRight limit a) ⊎ (a.told ≡ Unanswered)
 
--- A client puts one message after the other, the next once the one before was told as it is. Whichever first units of the last one
--- came: what the units put that came is what a server may accept on such a link.
+-- A client puts one message after the other, the next once the one before was told as it is. Whichever first units of
+-- the last one came: what the units put that came is what a server may accept on such a link.
 abbrev pub ClientLinkLaw : Type 0
 ClientLinkLaw =
-    (limit : ℕ) (done : List Answered) (last : Answered) (part more accepted : List (List ℕ)) → AreJobs limit (jobs_of done)
+    (limit : ℕ) (done : List Answered) (last : Answered) (part more accepted : List (List ℕ))
+    → AreJobs limit (jobs_of done)
     → IsJob limit last.job → AreToldRight limit done → last.job.units ≡ part ++ more → IsToldSo limit last more
-    → Puts limit (units_of_puts (jobs_of done) ++ part) accepted → LinkAccepts limit (puts_of done ++ put_of last ∷ []) accepted
+    → Puts limit (units_of_puts (jobs_of done) ++ part) accepted
+    → LinkAccepts limit (puts_of done ++ put_of last ∷ []) accepted

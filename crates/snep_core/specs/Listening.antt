@@ -1,11 +1,13 @@
--- What a client's end does for its job between payloads, for private calls: no public contract speaks of it, the table is Talk.antt.
+-- What a client's end does for its job between payloads, for private calls: no public contract speaks of it, the table
+-- is Talk.antt.
 use Rattle.std.specs.Prelude.{◌≡◌, ◌||◌, ℕ, Bool, false, List, [], ◌∷◌, Option, Some, None, if◌then◌else◌}
 use Rattle.llcp_link.specs.Asking.{forgotten, has_waiting_of}
 use Rattle.snep_core.specs.declared.job.Awaiting.{Awaiting}
 use Rattle.snep_core.specs.declared.job.Heard.{Heard}
 use Rattle.snep_core.specs.declared.job.HeardAll.{HeardAll}
 use Rattle.snep_core.specs.Jobs.{Job, has_byte, told_in}
-use Rattle.snep_core.specs.Talk.{EndState, OnSap, emptied, gave_between, heard, heard_with, own_of, stands_of, submits, takes_more, units_of}
+use Rattle.snep_core.specs.Talk.{EndState, OnSap, emptied, gave_between, heard, heard_with, own_of, stands_of, submits}
+use Rattle.snep_core.specs.Talk.{takes_more, units_of}
 
 -- a unit was submitted, or it may not be now
 pub record Offered (sap : ℕ) (old : EndState) (unit : List ℕ) (taken : Bool) (new : EndState) : Type 0 where
@@ -17,7 +19,8 @@ abbrev pub HearsUnits : ℕ → Bool → EndState → Job → Option Heard → E
 HearsUnits sap waiting old job None new =
     (told_in waiting job (units_of (own_of sap old)) ≡ None) × (forgotten new sap ≡ forgotten old sap)
 HearsUnits sap waiting old job (Some h) new =
-    (told_in waiting job (units_of (own_of sap old)) ≡ Some h.job) × (h.some ≡ has_byte (units_of (own_of sap old))) × (new ≡ emptied old sap)
+    (told_in waiting job (units_of (own_of sap old)) ≡ Some h.job) × (h.some ≡ has_byte (units_of (own_of sap old)))
+    × (new ≡ emptied old sap)
 
 -- all that was heard came to this; or the far end is at fault
 abbrev pub Hears : ℕ → Bool → EndState → Job → Option Heard → EndState → Type 0

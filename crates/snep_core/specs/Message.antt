@@ -1,7 +1,8 @@
 -- How messages are written (NFC Forum SNEP 1.0).
 use Rattle.std.specs.Prelude.{ℕ, ◌+◌, ◌*◌, ◌/◌, ◌%◌, List, ◌∷◌, [], ◌++◌, length}
 use Rattle.snep_core.specs.declared.message.Answer.{Answer}
-use Rattle.snep_core.specs.declared.message.Answer.TheVariants.{Continue, Success, NotFound, Excess, BadRequest, NotImplemented, UnsupportedVersion, Reject}
+use Rattle.snep_core.specs.declared.message.Answer.TheVariants.{Continue, Success, NotFound, Excess, BadRequest}
+use Rattle.snep_core.specs.declared.message.Answer.TheVariants.{NotImplemented, UnsupportedVersion, Reject}
 
 -- the first byte: version 1.0
 abbrev pub version : ℕ

@@ -1,7 +1,8 @@
 -- The numbers of the errors.
 use Rattle.std.specs.Prelude.{ℕ}
 use Rattle.snep_core.specs.declared.fault.SnepFault.{SnepFault}
-use Rattle.snep_core.specs.declared.fault.SnepFault.TheVariants.{Reject, NotFound, Excess, NotImplemented, LinkEnded, Memory, BadPeer, SlotBusy}
+use Rattle.snep_core.specs.declared.fault.SnepFault.TheVariants.{Reject, NotFound, Excess, NotImplemented, LinkEnded}
+use Rattle.snep_core.specs.declared.fault.SnepFault.TheVariants.{Memory, BadPeer, SlotBusy}
 
 abbrev pub snep_fault_number : SnepFault → ℕ
 snep_fault_number Reject = 1

@@ -42,7 +42,8 @@ abbrev pub PayloadsAccepted : Type 0
 PayloadsAccepted =
     (old : LlcState ServerState) (general : List ℕ) (run : List (Acted ServerState))
     → IsServerRun (restarted serving old general) run → (c : ℕ) → c < sap_count
-    → AcceptsPuts c old.service.limit old.miu (marks_of serving c (restarted serving old general) run) old.service.accepted
+    → AcceptsPuts c old.service.limit old.miu (marks_of serving c (restarted serving old general) run)
+    old.service.accepted
     (end_after_acts (restarted serving old general) run).service.accepted
 
 -- A place in what an end does: some acts, and some first of the PDUs of a payload behind them.
@@ -65,14 +66,18 @@ marks_there c begin p = marks_of serving c begin p.before ++ marks serving c (en
 -- At each PDU of the payloads, what is accepted until there is what the PDUs until there put, and the first of what is
 -- accepted until the payload's end and whatever is done then. So messages are accepted in the order in which the units
 -- stand that complete them.
-pub record AcceptsThere (old : LlcState ServerState) (begin : LlcState ServerState) (p : PlaceInActs begin) : Type 0 where
-  pub puts : (c : ℕ) → c < sap_count → AcceptsPuts c old.service.limit old.miu (marks_there c begin p) old.service.accepted (end_there begin p).service.accepted
+pub record AcceptsThere (old : LlcState ServerState) (begin : LlcState ServerState) (p : PlaceInActs begin)
+    : Type 0 where
+  pub puts : (c : ℕ) → c < sap_count → AcceptsPuts c old.service.limit old.miu (marks_there c begin p)
+      old.service.accepted (end_there begin p).service.accepted
   pub front : (more : List (Acted ServerState)) → IsServerRun (steps serving (end_there begin p) p.behind) more
-      → IsPrefix (end_there begin p).service.accepted (end_after_acts (steps serving (end_there begin p) p.behind) more).service.accepted
+      → IsPrefix (end_there begin p).service.accepted (end_after_acts (steps serving (end_there begin p) p.behind)
+      more).service.accepted
 
 abbrev pub AcceptedInOrder : Type 0
 AcceptedInOrder =
-    (old : LlcState ServerState) (general : List ℕ) (p : PlaceInActs (restarted serving old general)) → AcceptsThere old (restarted serving old general) p
+    (old : LlcState ServerState) (general : List ℕ) (p : PlaceInActs (restarted serving old general))
+    → AcceptsThere old (restarted serving old general) p
 
 -- A step that want of memory left unfinished: what was accepted before it stays, and what it added is the first of what
 -- the payload adds. A whole step adds just that, whatever it replies and with however many PDUs.
@@ -83,4 +88,5 @@ pub record AcceptsSome (old new : LlcState ServerState) (payload : List ℕ) : T
       → done.service.accepted ≡ (taken_from serving old payload).service.accepted
 
 abbrev pub CutOffAccepts : Type 0
-CutOffAccepts = (old new : LlcState ServerState) (payload : List ℕ) → Stops serving old payload new → AcceptsSome old new payload
+CutOffAccepts = (old new : LlcState ServerState) (payload : List ℕ) → Stops serving old payload new
+    → AcceptsSome old new payload

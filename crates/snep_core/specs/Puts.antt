@@ -1,4 +1,5 @@
--- The messages that the units of a connection put, without a server's state (NFC Forum SNEP 1.0; the limit is this project's own).
+-- The messages that the units of a connection put, without a server's state (NFC Forum SNEP 1.0; the limit is this
+-- project's own).
 use Rattle.std.specs.Prelude.{◌≡◌, ◌<◌, ◌≤◌, ℕ, ◌+◌, ◌/◌, List, [], ◌∷◌, ◌++◌, length, ◌⊎◌}
 use Rattle.std.specs.List.{concat}
 use Rattle.snep_core.specs.declared.first.First.{First}
@@ -27,8 +28,8 @@ Reaches n have [] = ⊥
 Reaches n have (u ∷ []) = (have < n) × (n ≤ have + length u)
 Reaches n have (u ∷ v ∷ us) = (have + length u < n) × Reaches n (have + length u) (v ∷ us)
 
--- A group is one unit that is answered at once or dropped, or a run from one that is answered by a continue to the one with
--- which its information reaches or passes the length.
+-- A group is one unit that is answered at once or dropped, or a run from one that is answered by a continue to the one
+-- with which its information reaches or passes the length.
 abbrev pub IsGroup : ℕ → List (List ℕ) → Type 0
 IsGroup limit [] = ⊥
 IsGroup limit (u ∷ us) =
@@ -44,7 +45,8 @@ IsUnfinished limit (u ∷ us) = IsPartly (first_of limit u) × (length (info_of 
 abbrev pub GroupPuts : ℕ → List (List ℕ) → List (List ℕ) → Type 0
 GroupPuts limit [] ms = ms ≡ []
 GroupPuts limit (u ∷ us) ms =
-    (IsPut u × (length (info_of u ++ concat us) ≡ length_of u) × (length_of u ≤ limit) × (ms ≡ (info_of u ++ concat us) ∷ []))
+    (IsPut u × (length (info_of u ++ concat us) ≡ length_of u) × (length_of u ≤ limit)
+    × (ms ≡ (info_of u ++ concat us) ∷ []))
     ⊎ ((IsPut u → length (info_of u ++ concat us) ≡ length_of u → length_of u ≤ limit → ⊥) × (ms ≡ []))
 
 abbrev pub grouped : List (List (List ℕ)) → List (List ℕ)
@@ -54,12 +56,14 @@ grouped (g ∷ gs) = g ++ grouped gs
 abbrev pub Groups : ℕ → List (List (List ℕ)) → List (List ℕ) → Type 0
 Groups limit [] ms = ms ≡ []
 Groups limit (g ∷ gs) ms =
-    (one : List (List ℕ)) × (rest : List (List ℕ)) × (ms ≡ one ++ rest) × IsGroup limit g × GroupPuts limit g one × Groups limit gs rest
+    (one : List (List ℕ)) × (rest : List (List ℕ)) × (ms ≡ one ++ rest) × IsGroup limit g × GroupPuts limit g one
+    × Groups limit gs rest
 
 -- These units of a connection are groups, maybe with an unfinished run behind them, and put these messages.
 abbrev pub Puts : ℕ → List (List ℕ) → List (List ℕ) → Type 0
 Puts limit us ms =
-    (gs : List (List (List ℕ))) × (run : List (List ℕ)) × (us ≡ grouped gs ++ run) × Groups limit gs ms × IsUnfinished limit run
+    (gs : List (List (List ℕ))) × (run : List (List ℕ)) × (us ≡ grouped gs ++ run) × Groups limit gs ms
+    × IsUnfinished limit run
 
 -- units put one list of messages
 abbrev pub PutsOne : Type 0

@@ -8,7 +8,8 @@ use Rattle.llcp_link.specs.Asking.{acked_of}
 use Rattle.llcp_link.specs.State.{OwnState, own_from}
 use Rattle.llcp_link.specs.Waning.{pending}
 use Rattle.snep_core.specs.Jobs.{Job, Begins, Waits, Sends, Asks, Collects, Looks, Closes, Over}
-use Rattle.snep_core.specs.Talk.{AreApart, EndState, Goes, OnSap, Step, TaskOn, ComesTo, Working, begins_all, most_idle, replied, saps}
+use Rattle.snep_core.specs.Talk.{AreApart, EndState, Goes, OnSap, Step, TaskOn, ComesTo, Working, begins_all, most_idle}
+use Rattle.snep_core.specs.Talk.{replied, saps}
 
 -- an answer, or the first unit of a value, the continue that asks for the rest, and its bytes
 abbrev pub answer_left : Option ℕ → ℕ
@@ -70,4 +71,5 @@ RepliesFall =
 -- So a call hears at most as many replies as were left where it began, however many PDUs its payloads have.
 abbrev pub CallsEnd : Type 0
 CallsEnd =
-    (w : Working) (ns : List ℕ) (did : List FarStep) (to : Step) → IsUnderWay w → ComesTo ns (Goes w) did to → length did ≤ replies_left w
+    (w : Working) (ns : List ℕ) (did : List FarStep) (to : Step) → IsUnderWay w → ComesTo ns (Goes w) did to
+    → length did ≤ replies_left w

@@ -1,5 +1,6 @@
 -- A SNEP server as the service of an end (NFC Forum SNEP 1.0; its limit and its table for get are this project's own).
-use Rattle.std.specs.Prelude.{◌≡◌, ◌≤◌, ℕ, ◌-◌, List, [], ◌∷◌, ◌++◌, length, map, replicate, set, get_or, nat_eq, Option, Some, None, option_map, suc, if◌then◌else◌}
+use Rattle.std.specs.Prelude.{◌≡◌, ◌≤◌, ℕ, ◌-◌, List, [], ◌∷◌, ◌++◌, length, map, replicate, set, get_or, nat_eq}
+use Rattle.std.specs.Prelude.{Option, Some, None, option_map, suc, if◌then◌else◌}
 use Rattle.std.specs.Cmp.Lexicographic.{pointwise}
 use Rattle.llcp_pdu.specs.Wire.{sap_count}
 use Rattle.llcp_link.specs.Serving.{Serving}
@@ -10,7 +11,8 @@ pub record Received : Type 0 where
   pub source : ℕ
   pub message : List ℕ
 
--- A server: the longest message that it takes, its table for get, what it accepted, and a session for each client's SAP.
+-- A server: the longest message that it takes, its table for get, what it accepted, and a session for each client's
+-- SAP.
 pub record ServerState : Type 0 where
   pub limit : ℕ
   pub table : List Offer
@@ -32,7 +34,8 @@ padded xs = xs ++ replicate (sap_count - length xs) fresh_session
 abbrev pub from_sources : List ℕ → List (List ℕ) → List Received
 from_sources [] messages = []
 from_sources (source ∷ sources) [] = []
-from_sources (source ∷ sources) (message ∷ messages) = record { source = source; message = message } ∷ from_sources sources messages
+from_sources (source ∷ sources) (message ∷ messages) =
+    record { source = source; message = message } ∷ from_sources sources messages
 
 abbrev pub fresh_server : ℕ → ServerState
 fresh_server limit = record { limit = limit; table = []; accepted = []; sessions = no_sessions }

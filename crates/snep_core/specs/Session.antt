@@ -1,6 +1,7 @@
 -- One connection to a server: what its units do, and what goes out on it (NFC Forum SNEP 1.0; the table for get is this
 -- project's own).
-use Rattle.std.specs.Prelude.{◌<◌, ◌^◌, ℕ, ◌-◌, ◌==◌, nat_lt, nat_eq, List, [], ◌∷◌, ◌++◌, length, take, drop, Option, Some, None, if◌then◌else◌}
+use Rattle.std.specs.Prelude.{◌<◌, ◌^◌, ℕ, ◌-◌, ◌==◌, nat_lt, nat_eq, List, [], ◌∷◌, ◌++◌, length, take, drop, Option}
+use Rattle.std.specs.Prelude.{Some, None, if◌then◌else◌}
 use Rattle.std.specs.Cmp.Lexicographic.{pointwise}
 use Rattle.snep_core.specs.declared.message.Answer.TheVariants as answers
 use Rattle.snep_core.specs.declared.message.Request.{Request}
@@ -20,8 +21,8 @@ pub record Gathering : Type 0 where
   pub left : ℕ
   pub info : List ℕ
 
--- A connection: what is gathered; what is to be sent for what came, in the order in which it arose; what waits for a continue; and
--- what is being sent.
+-- A connection: what is gathered; what is to be sent for what came, in the order in which it arose; what waits for a
+-- continue; and what is being sent.
 pub record Session : Type 0 where
   pub gathered : Option Gathering
   pub due : List Due
@@ -49,7 +50,8 @@ value_of key (o ∷ os) = if pointwise nat_eq o.key key then Some o.value else v
 -- what a get is answered that takes a value of at most so many bytes
 abbrev pub got : ℕ → Option (List ℕ) → Word
 got most None = Answers answers.NotFound
-got most (Some value) = if nat_lt most (length value) then Answers answers.Excess else Offers (message answers.Success value)
+got most (Some value) = if nat_lt most (length value) then Answers answers.Excess
+    else Offers (message answers.Success value)
 
 -- a get has four bytes that say how long a value it takes, and then the key
 abbrev pub gets : List Offer → List ℕ → Word
@@ -76,7 +78,10 @@ obeys table x Put info = record { session = with_due x (Tells (Answers answers.S
 
 abbrev pub gathers : Session → Request → ℕ → List ℕ → Did
 gathers x request left info =
-    record { session = record x { gathered = Some (record { request = request; left = left; info = info }) }; accepts = None }
+    record {
+      session = record x { gathered = Some (record { request = request; left = left; info = info }) };
+      accepts = None;
+    }
 
 -- A first unit. One with a part of its information is answered by continue.
 abbrev pub first_did : List Offer → Session → First → List ℕ → Did
@@ -109,11 +114,15 @@ pub record Sent : Type 0 where
 abbrev pub goes : ℕ → Session → List ℕ → Sent
 goes miu x bytes = record { session = record x { going = drop miu bytes }; unit = Some (take miu bytes) }
 
--- What goes out for what came. An answer drops what waits. Of a value all behind its first unit waits. A continue sets free what
--- waits; where nothing does, it is a bad request. Whether anything waits shows only here, since a value is cut only when it goes out.
+-- What goes out for what came. An answer drops what waits. Of a value all behind its first unit waits. A continue sets
+-- free what waits; where nothing does, it is a bad request. Whether anything waits shows only here, since a value is
+-- cut only when it goes out.
 abbrev pub sent_word : ℕ → Session → Word → Sent
 sent_word miu x (Answers answer) = goes miu (record x { waiting = [] }) (message answer [])
-sent_word miu x (Offers bytes) = record { session = record x { waiting = drop miu bytes }; unit = Some (take miu bytes) }
+sent_word miu x (Offers bytes) = record {
+  session = record x { waiting = drop miu bytes };
+  unit = Some (take miu bytes);
+}
 sent_word miu x Resumes =
     if length x.waiting == 0 then goes miu x (message answers.BadRequest [])
     else goes miu (record x { waiting = [] }) x.waiting

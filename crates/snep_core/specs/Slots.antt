@@ -1,6 +1,7 @@
--- The slots of a client: what was staged on each on its link, and how it ended (when a message is staged, and when it is put,
--- is this project's own).
-use Rattle.std.specs.Prelude.{◌≡◌, ◌≤◌, ℕ, ◌+◌, ◌==◌, ◌||◌, Bool, true, false, List, [], ◌∷◌, length, map, replicate, set, get_or, Option, Some, None, Result, Ok, Err, if◌then◌else◌}
+-- The slots of a client: what was staged on each on its link, and how it ended (when a message is staged, and when it
+-- is put, is this project's own).
+use Rattle.std.specs.Prelude.{◌≡◌, ◌≤◌, ℕ, ◌+◌, ◌==◌, ◌||◌, Bool, true, false, List, [], ◌∷◌, length, map, replicate}
+use Rattle.std.specs.Prelude.{set, get_or, Option, Some, None, Result, Ok, Err, if◌then◌else◌}
 pub use Rattle.snep_core.specs.declared.slot.Slot.{Slot}
 pub use Rattle.snep_core.specs.declared.slot.Slot.TheVariants.{NoMessage, Staged, Success, Rejected}
 pub use Rattle.snep_core.specs.declared.slot.Outcome.{Outcome}
@@ -116,8 +117,8 @@ dropped_one s = s
 abbrev pub dropped : List Slot → List Slot
 dropped slots = map dropped_one slots
 
--- A slot whose message was put alone, by how the call ended: the message was accepted; or rejected; a far end that is given up leaves
--- none; else it waits still.
+-- A slot whose message was put alone, by how the call ended: the message was accepted; or rejected; a far end that is
+-- given up leaves none; else it waits still.
 abbrev pub put_left : Result Unit SnepFault → Slot → Slot
 put_left (Ok u) s = Success
 put_left (Err faults.Reject) s = Rejected

@@ -1,6 +1,7 @@
 -- What a client of a SNEP server does in one call, reply by reply: a function of what it asked and of what it was told
 -- (NFC Forum LLCP 1.3 and SNEP 1.0; when it gives a far end up is this project's own).
-use Rattle.std.specs.Prelude.{◌≡◌, ℕ, zero, suc, ◌+◌, ◌==◌, ◌&&◌, ◌||◌, eqb, nat_lt, not, is_none, Bool, true, false, List, [], ◌∷◌, ◌++◌, length, take, drop, Option, Some, None, if◌then◌else◌}
+use Rattle.std.specs.Prelude.{◌≡◌, ℕ, zero, suc, ◌+◌, ◌==◌, ◌&&◌, ◌||◌, eqb, nat_lt, not, is_none, Bool, true, false}
+use Rattle.std.specs.Prelude.{List, [], ◌∷◌, ◌++◌, length, take, drop, Option, Some, None, if◌then◌else◌}
 use Rattle.std.specs.List.{IsDistinct}
 use Rattle.nfc_base.specs.Links.{FarStep, Stepped}
 use Rattle.nfc_base.specs.Choosing.{first_number, later_numbers}
@@ -10,14 +11,17 @@ use Rattle.llcp_link.specs.Names.{own_params}
 use Rattle.llcp_link.specs.State.{LlcState, OwnState, own_from, with_own}
 use Rattle.llcp_link.specs.declared.standing.Standing.{Standing}
 use Rattle.llcp_link.specs.declared.standing.Standing.TheVariants as stands
-use Rattle.llcp_link.specs.Asking.{first_sap, acked_of, asked_from, disconnected_by, forgotten, found_in, has_waiting_of, is_busy_by, is_open_by, looked_up, put_own, refusal_of, request, standing_of, submitted_by}
+use Rattle.llcp_link.specs.Asking.{first_sap, acked_of, asked_from, disconnected_by, forgotten, found_in}
+use Rattle.llcp_link.specs.Asking.{has_waiting_of, is_busy_by, is_open_by, looked_up, put_own, refusal_of, request}
+use Rattle.llcp_link.specs.Asking.{standing_of, submitted_by}
 use Rattle.llcp_link.specs.Taking.{taken_from}
 use Rattle.llcp_link.specs.Giving.{given, after_giving}
 use Rattle.snep_core.specs.declared.silent.NoService.{NoService}
 use Rattle.snep_core.specs.declared.client.Stands.{Stands}
 pub use Rattle.snep_core.specs.declared.job.OnSap.{OnSap}
 use Rattle.snep_core.specs.Message.{continue_code, four_bytes, get_code, message_of_code, put_code}
-use Rattle.snep_core.specs.Jobs.{Job, Begins, Waits, Sends, Asks, Collects, Looks, Closes, Over, Done, Sap, told_in, has_byte}
+use Rattle.snep_core.specs.Jobs.{Job, Begins, Waits, Sends, Asks, Collects, Looks, Closes, Over, Done, Sap, told_in}
+use Rattle.snep_core.specs.Jobs.{has_byte}
 
 -- a service with nothing to send
 abbrev pub silent : Serving NoService
@@ -77,7 +81,8 @@ pub record CameTo : Type 0 where
   pub sap : ℕ
   pub job : Option Job
 
--- A far end that is given up: what each job came to by its last reply, and the end, which has no connection of theirs any more.
+-- A far end that is given up: what each job came to by its last reply, and the end, which has no connection of theirs
+-- any more.
 pub record GivenUp : Type 0 where
   pub came : List CameTo
   pub llc : EndState
@@ -226,7 +231,8 @@ behind_first most (b ∷ bs) = Waits most (b ∷ bs)
 abbrev pub begins_on : EndState → ℕ → Option ℕ → List ℕ → Option ℕ → Ready
 begins_on l sap most bytes None = ready_so l (Begins most bytes)
 begins_on l sap most bytes (Some miu) =
-    if takes_more l sap (take miu bytes) then ready_so (submits l sap (take miu bytes)) (behind_first most (drop miu bytes))
+    if takes_more l sap (take miu bytes) then ready_so (submits l sap (take miu bytes))
+    (behind_first most (drop miu bytes))
     else ready_so l (Begins most bytes)
 
 -- The rest follows in units of at most so many bytes, as far as the window allows. There are at most as many units as
@@ -246,7 +252,8 @@ sends_on l sap most rest (Some miu) = sends_some (length rest) miu l sap most re
 -- the rest of a value is asked for by a continue
 abbrev pub asks_on : EndState → ℕ → ℕ → List ℕ → Ready
 asks_on l sap size have =
-    if takes_more l sap continue_bytes then ready_so (submits l sap continue_bytes) (Collects size have) else ready_so l (Asks size have)
+    if takes_more l sap continue_bytes then ready_so (submits l sap continue_bytes) (Collects size have)
+    else ready_so l (Asks size have)
 
 -- what a job submits before a payload is given
 abbrev pub readied : EndState → ℕ → Job → Ready
@@ -274,7 +281,8 @@ stands_of o = record { waiting = is_waiting (standing_of o); open_ = is_open_by 
 -- A reply gave something on a connection: a CC or DM that was awaited, or an acknowledgement.
 abbrev pub gave_between : Stands → Stands → Bool
 gave_between old new =
-    if old.waiting && not new.waiting then true else (if old.open_ && new.open_ then not (new.acked == old.acked) else false)
+    if old.waiting && not new.waiting then true else (if old.open_ && new.open_ then not (new.acked == old.acked)
+    else false)
 
 abbrev pub gave_something : Option OwnState → Option OwnState → Bool
 gave_something old new = gave_between (stands_of old) (stands_of new)
@@ -352,7 +360,8 @@ all_emptied (x ∷ xs) l = all_emptied xs (emptied l x.sap)
 abbrev pub gave_any : EndState → EndState → List OnSap → Bool
 gave_any old new [] = false
 gave_any old new (x ∷ xs) =
-    (gave_something (own_from x.sap old.own) (own_from x.sap new.own) || has_byte (units_of (own_from x.sap new.own))) || gave_any old new xs
+    (gave_something (own_from x.sap old.own) (own_from x.sap new.own) || has_byte (units_of (own_from x.sap new.own)))
+    || gave_any old new xs
 
 abbrev pub idle_after : Bool → ℕ → ℕ
 idle_after true n = 0
@@ -367,7 +376,8 @@ abbrev pub given_up : EndState → List OnSap → List CameTo → Step
 given_up l jobs came = GivesUp (record { came = came; llc = all_forgotten jobs l })
 
 abbrev pub goes_on : EndState → List OnSap → ℕ → Step
-goes_on l jobs idle = if nat_lt idle most_idle then Goes (record { llc = l; jobs = jobs; idle = idle }) else given_up l jobs (as_they_came jobs)
+goes_on l jobs idle = if nat_lt idle most_idle then Goes (record { llc = l; jobs = jobs; idle = idle })
+    else given_up l jobs (as_they_came jobs)
 
 abbrev pub settled : EndState → List OnSap → ℕ → Step
 settled l jobs idle = if all_over jobs then Ends jobs l else goes_on l jobs idle
@@ -383,7 +393,8 @@ took old l jobs idle =
 
 -- What a call is once its payload, with so many PDUs in it, was answered.
 abbrev pub replied_ready : ℕ → Working → List ℕ → Step
-replied_ready n w reply = took (after_giving silent n w.llc) (taken_from silent (after_giving silent n w.llc) reply) w.jobs w.idle
+replied_ready n w reply = took (after_giving silent n w.llc) (taken_from silent (after_giving silent n w.llc) reply)
+    w.jobs w.idle
 
 abbrev pub replied : ℕ → Working → List ℕ → Step
 replied n w reply = replied_ready n (ready w) reply

@@ -2,11 +2,14 @@
 
 ghost use Rattle.std.specs.Prelude.{◌≡◌, ◌<◌, ◌≤◌, ◌⊎◌, ◌↔◌, [], length, true, false, Err, IfOk, IfErr, OnOk};
 ghost use Rattle.llcp_link.specs.Asking.{is_open_by, looked_up};
-ghost use Rattle.snep_core.specs.Accord.{Accords, AsideFails, AtPeers, GetFails, IsBegun, IsClosed, IsFound, IsGot, IsTaken, PeerState, PutFails};
+ghost use Rattle.snep_core.specs.Accord.{Accords, AsideFails, AtPeers, GetFails, IsBegun, IsClosed, IsFound, IsGot};
+ghost use Rattle.snep_core.specs.Accord.{IsTaken, PeerState, PutFails};
 ghost use Rattle.snep_core.specs.Calling.{FailsBy, RequestFails, Talks, is_memory, refused_by};
 ghost use Rattle.snep_core.specs.Jobs.{Done, Over, Refused, Sap, Value};
 ghost use Rattle.snep_core.specs.Slots.{fresh_slots, is_staged_at, put_alone};
-ghost use Rattle.snep_core.specs.Talk.{Ends, Finds, Gets, Puts, all_closed, alone, begins, begins_from, begun, client_sap, closes, connected, gave_between as gave, is_waiting as awaits, one_on, own_of, sap_of_slot, stands_of};
+ghost use Rattle.snep_core.specs.Talk.{Ends, Finds, Gets, Puts, all_closed, alone, begins, begins_from, begun};
+ghost use Rattle.snep_core.specs.Talk.{client_sap, closes, connected, gave_between as gave, is_waiting as awaits};
+ghost use Rattle.snep_core.specs.Talk.{one_on, own_of, sap_of_slot, stands_of};
 ghost use Rattle.snep_core.specs.private.Waning.{Getting, IsOf, aim_by};
 ghost use Rattle.snep_core.specs.declared.fault.SnepFault.{SnepFault};
 ghost use Rattle.snep_core.specs.declared.job.Job.{Job};
@@ -157,7 +160,8 @@ impl ClientEnd {
     /// Asks at which SAP the far end has a name, and gives the number of the question.
     fn look_up(&mut self, name: &str) -> Result<u8, SnepFault>
         requires { length name.now ≤ 64 }
-        ensures ok { IfOk result (λ tid. (tid ≡ self.old.llc.asked) × (self.new.llc ≡ looked_up self.old.llc name.now)) }
+        ensures ok { IfOk result (λ tid. (tid ≡ self.old.llc.asked)
+            × (self.new.llc ≡ looked_up self.old.llc name.now)) }
         ensures going { OnOk result (self.new.spent ≡ self.old.spent) }
         ensures err { IfErr result (λ e. e ≡ SnepFault.Memory) }
         ensures spent { IfErr result (λ e. self.new.spent ≡ true) }
@@ -258,7 +262,8 @@ impl Client {
         }
     }
 
-    /// Puts a message of at most 65,536 bytes: it is staged on slot 0 and put alone, and what waits on other slots waits still.
+    /// Puts a message of at most 65,536 bytes: it is staged on slot 0 and put alone, and what waits on other slots
+    /// waits still.
     pub fn put<C: Carrier, A: Answerer>(
         &mut self,
         carrier: &mut C,
@@ -271,7 +276,8 @@ impl Client {
         ensures ok { OnOk result (Talks C.seen C.swaps A.steps A.stops counts (begins self.old.llc (Puts message.now))
             carrier.old far.old (Ends (alone (Over Done)) self.new.llc) carrier.new far.new) }
         ensures going { OnOk result ((self.old.spent ≡ false) × (self.new.spent ≡ false)) }
-        ensures busy { self.old.spent ≡ false → (result ≡ Err SnepFault.SlotBusy) ↔ (is_staged_at self.old.slots 0 ≡ true) }
+        ensures busy { self.old.spent ≡ false → (result ≡ Err SnepFault.SlotBusy)
+            ↔ (is_staged_at self.old.slots 0 ≡ true) }
         ensures err { self.old.spent ≡ false → is_staged_at self.old.slots 0 ≡ false
             → IfErr result (λ e. RequestFails C.seen C.swaps A.steps A.stops client_sap counts
             (begins self.old.llc (Puts message.now)) carrier.old far.old e self.new.llc carrier.new far.new) }
@@ -323,7 +329,8 @@ impl Client {
             (begins_from self.old.llc (sap_of_slot slot) (Gets acceptable key.now)) carrier.old far.old
             (Ends (one_on (sap_of_slot slot) (Over (Value value.items))) self.new.llc) carrier.new far.new) }
         ensures going { OnOk result ((self.old.spent ≡ false) × (self.new.spent ≡ false)) }
-        ensures err { self.old.spent ≡ false → IfErr result (λ e. RequestFails C.seen C.swaps A.steps A.stops (sap_of_slot slot) counts
+        ensures err { self.old.spent ≡ false → IfErr result
+            (λ e. RequestFails C.seen C.swaps A.steps A.stops (sap_of_slot slot) counts
             (begins_from self.old.llc (sap_of_slot slot) (Gets acceptable key.now)) carrier.old far.old e self.new.llc carrier.new far.new) }
         // Over a far end that serves as this project's server does, and with which the client accords:
         ensures value { AtPeers A.steps A.stops self.old.llc far.old (λ view.
@@ -372,7 +379,8 @@ impl Client {
         ensures ok { IfOk result (λ value. Talks C.seen C.swaps A.steps A.stops counts
             (begins self.old.llc (Gets acceptable key.now)) carrier.old far.old (Ends (alone (Over (Value value.items))) self.new.llc) carrier.new far.new) }
         ensures going { OnOk result ((self.old.spent ≡ false) × (self.new.spent ≡ false)) }
-        ensures err { self.old.spent ≡ false → IfErr result (λ e. RequestFails C.seen C.swaps A.steps A.stops client_sap counts
+        ensures err { self.old.spent ≡ false → IfErr result
+            (λ e. RequestFails C.seen C.swaps A.steps A.stops client_sap counts
             (begins self.old.llc (Gets acceptable key.now)) carrier.old far.old e self.new.llc carrier.new far.new) }
         // Over a far end that serves as this project's server does, and with which the client accords:
         ensures value { AtPeers A.steps A.stops self.old.llc far.old (λ view.

@@ -1,12 +1,14 @@
 //! What the first unit of a request is.
 
 ghost use Rattle.std.specs.Prelude.{◌≡◌, ◌<◌, ◌≤◌, ◌^◌};
-ghost use Rattle.snep_core.specs.First.{first_of as first_to, by_code as told_by_code, by_size as told_by_size, bare as told_bare};
+ghost use Rattle.snep_core.specs.First.{first_of as first_to, by_code as told_by_code, by_size as told_by_size};
+ghost use Rattle.snep_core.specs.First.{bare as told_bare};
 
 use crate::message::{Answer, CONTINUE, GET, PUT, REJECT, Request};
 
-/// What a first unit is to a server of a limit, whatever it did before: it is answered so; it asks for what waits; it drops
-/// what waits; it is a whole request; or it is the first unit of one of whose information so many bytes are still to come.
+/// What a first unit is to a server of a limit, whatever it did before: it is answered so; it asks for what waits; it
+/// drops what waits; it is a whole request; or it is the first unit of one of whose information so many bytes are still
+/// to come.
 #[derive(Clone, Copy, Debug, PartialEq, Eq)]
 pub enum First {
     Says(Answer),

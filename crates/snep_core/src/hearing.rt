@@ -2,7 +2,8 @@
 
 ghost use Rattle.std.specs.Prelude.{◌≡◌, ◌++◌, option_map, IfOk};
 ghost use Rattle.snep_core.specs.First.{info_of};
-ghost use Rattle.snep_core.specs.Jobs.{Collects, ended_by, head_of, is_bare as bare_by, refusal as refusal_by, sent_told, success_told, told, value_told, waiting_told};
+ghost use Rattle.snep_core.specs.Jobs.{Collects, ended_by, head_of, is_bare as bare_by, refusal as refusal_by};
+ghost use Rattle.snep_core.specs.Jobs.{sent_told, success_told, told, value_told, waiting_told};
 
 use crate::job::{Ending, Job, Refusal};
 use crate::message::{Answer, HEADER};

@@ -101,8 +101,8 @@ pub struct HeardAll {
     pub(crate) gave: bool,
 }
 
-/// What a call is behind an exchange: at its end, with all its jobs over; going on after so many replies that gave nothing;
-/// or the far end is given up.
+/// What a call is behind an exchange: at its end, with all its jobs over; going on after so many replies that gave
+/// nothing; or the far end is given up.
 #[derive(Debug, Drop)]
 pub enum Turn {
     Ended(Items<OnSap>),

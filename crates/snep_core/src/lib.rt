@@ -1,11 +1,11 @@
-//! SNEP (NFC Forum SNEP 1.0): the server, which takes messages and answers requests for values, as the service of an end of
-//! a link.
+//! SNEP (NFC Forum SNEP 1.0): the server, which takes messages and answers requests for values, as the service of an
+//! end of a link.
 //!
-//! `message` has the codes and writes messages; `first` reads the first unit of a request; `session` is one connection: what
-//! is gathered, what is to be sent, what waits for a continue; `server` has the table for get, what was accepted, and a
-//! session for each client's SAP; `client` is the other end, `slot` has the messages that wait on its slots, `running` puts
-//! them at once, and `closing` ends all connections; `law` says what the units of a client's messages put, that a server accepts
-//! just that, and that a client's calls come to an end.
+//! `message` has the codes and writes messages; `first` reads the first unit of a request; `session` is one connection:
+//! what is gathered, what is to be sent, what waits for a continue; `server` has the table for get, what was accepted,
+//! and a session for each client's SAP; `client` is the other end, `slot` has the messages that wait on its slots,
+//! `running` puts them at once, and `closing` ends all connections; `law` says what the units of a client's messages
+//! put, that a server accepts just that, and that a client's calls come to an end.
 #![tactic(auto)]
 
 mod client;

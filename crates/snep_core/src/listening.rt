@@ -45,8 +45,8 @@ fn gave_so_far(gave: bool, given: bool, some: bool) -> bool
 }
 
 impl ClientEnd {
-    /// The units that were handed up on the connection from a SAP, each taken away. None where one of them puts the far end
-    /// at fault, or comes while one of this end's waits to be given.
+    /// The units that were handed up on the connection from a SAP, each taken away. None where one of them puts the far
+    /// end at fault, or comes while one of this end's waits to be given.
     fn hear_units(&mut self, sap: u8, first: Job, waiting: bool) -> Result<Option<Heard>, SnepFault>
         ensures ok { IfOk result (λ heard. HearsUnits sap waiting self.old.llc first heard self.new.llc) }
         ensures going { OnOk result (self.new.spent ≡ self.old.spent) }
@@ -106,8 +106,8 @@ impl ClientEnd {
         }
     }
 
-    /// What was heard makes of the job on the connection from a SAP, where a unit of this end waits to be given or none does.
-    /// None where the far end is at fault.
+    /// What was heard makes of the job on the connection from a SAP, where a unit of this end waits to be given or none
+    /// does. None where the far end is at fault.
     fn hear(&mut self, sap: u8, job: Job, waiting: bool) -> Result<Option<Heard>, SnepFault>
         ensures ok { IfOk result (λ heard. Hears sap waiting self.old.llc job heard self.new.llc) }
         ensures going { OnOk result (self.new.spent ≡ self.old.spent) }
@@ -131,8 +131,8 @@ impl ClientEnd {
         }))
     }
 
-    /// What was heard makes of all jobs, each on a connection of its own, and whether the reply gave something to one of
-    /// them. None where the far end is at fault.
+    /// What was heard makes of all jobs, each on a connection of its own, and whether the reply gave something to one
+    /// of them. None where the far end is at fault.
     pub(crate) fn all_hear(&mut self, all: Vec<Awaiting>) -> Result<Option<HeardAll>, SnepFault>
         requires apart { IsDistinct eqb (awaited_saps all.items) }
         ensures ok { IfOk result (λ heard. HearsAll self.old.llc all.items heard self.new.llc) }

@@ -5,7 +5,8 @@ ghost use Rattle.std.specs.Prelude.{◌≡◌, ◌<◌, ◌≤◌, ◌⊎◌, �
 ghost use Rattle.snep_core.specs.Accord.{AtPeers, IsRun, RunFails};
 ghost use Rattle.snep_core.specs.Calling.{RunFailsAt, RunsTo, is_memory};
 ghost use Rattle.snep_core.specs.RepliesLeft.{IsBelowCountEnd, task_saps};
-ghost use Rattle.snep_core.specs.Slots.{AllFit, FitsSlot, all_puts, put_with, is_staged_at, outcome_of, slot_at, slot_count, staged_on};
+ghost use Rattle.snep_core.specs.Slots.{AllFit, FitsSlot, all_puts, put_with, is_staged_at, outcome_of, slot_at};
+ghost use Rattle.snep_core.specs.Slots.{slot_count, staged_on};
 ghost use Rattle.snep_core.specs.Talk.{Puts, all_opening, opening, ready_so};
 ghost use Rattle.snep_core.specs.declared.fault.SnepFault.{SnepFault};
 
@@ -46,8 +47,10 @@ impl ClientEnd {
         requires sap { (32 ≤ sap) × (sap ≤ 39) }
         requires fit { FitsSlot slot.now }
         ensures llc { OnOk result (self.new.llc ≡ (all_opening (put_with sap slot.now []) self.old.llc).llc) }
-        ensures jobs { OnOk result (jobs.new.items ≡ jobs.old.items ++ (all_opening (put_with sap slot.now []) self.old.llc).jobs) }
-        ensures counted { OnOk result (AllByRecursion (IsBelowCountEnd self.old.llc) (task_saps (put_with sap slot.now []))) }
+        ensures jobs { OnOk result (jobs.new.items ≡ jobs.old.items
+            ++ (all_opening (put_with sap slot.now []) self.old.llc).jobs) }
+        ensures counted { OnOk result (AllByRecursion (IsBelowCountEnd self.old.llc)
+            (task_saps (put_with sap slot.now []))) }
         ensures going { OnOk result (self.new.spent ≡ self.old.spent) }
         ensures err { IfErr result (λ e. e ≡ SnepFault.Memory) }
         ensures spent { IfErr result (λ e. self.new.spent ≡ true) }

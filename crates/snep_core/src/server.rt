@@ -3,7 +3,8 @@
 ghost use Rattle.std.specs.Prelude.{◌≡◌, ◌<◌, ◌≤◌, ◌^◌, length, OnOk, OnErr, [], ◌∷◌, ◌++◌};
 ghost use Rattle.llcp_pdu.specs.Wire.{sap_count};
 ghost use Rattle.snep_core.specs.Session.{AreShort};
-ghost use Rattle.snep_core.specs.Server.{IsLimit, fresh_server, offered, padded, place_of as place_under, messages_of, sources_of};
+ghost use Rattle.snep_core.specs.Server.{IsLimit, fresh_server, offered, padded, place_of as place_under, messages_of};
+ghost use Rattle.snep_core.specs.Server.{sources_of};
 
 use crate::session::{Offer, Session};
 use llcp_link::Service;

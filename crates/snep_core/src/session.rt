@@ -1,7 +1,10 @@
 //! One connection to a server: what is gathered, what is to be sent, what waits.
 
-ghost use Rattle.std.specs.Prelude.{[], Some, ◌-◌, ◌≤◌, ◌≡◌, ◌<◌, ◌^◌, ◌++◌, length, take, drop, option_map, option_copied, IfOk, IfSome, OnOk};
-ghost use Rattle.snep_core.specs.Session.{fresh_session, with_due, gets, got, value_of as value_under, obeys, gathers, first_did, later_did, did, popped, sent_word, word_len, due_len as due_size, sent, after_sent, AreShort};
+ghost use Rattle.std.specs.Prelude.{[], Some, ◌-◌, ◌≤◌, ◌≡◌, ◌<◌, ◌^◌, ◌++◌, length, take, drop, option_map};
+ghost use Rattle.std.specs.Prelude.{option_copied, IfOk, IfSome, OnOk};
+ghost use Rattle.snep_core.specs.Session.{fresh_session, with_due, gets, got, value_of as value_under, obeys, gathers};
+ghost use Rattle.snep_core.specs.Session.{first_did, later_did, did, popped, sent_word, word_len, due_len as due_size};
+ghost use Rattle.snep_core.specs.Session.{sent, after_sent, AreShort};
 ghost use Rattle.snep_core.specs.Message.{message as message_of};
 ghost use Rattle.snep_core.specs.declared.session.Due.{Due};
 ghost use Rattle.snep_core.specs.declared.session.Word.{Word};
@@ -29,8 +32,8 @@ impl Model for Offer {
     ghost view = { λ o. record { key = o.key; value = o.value } };
 }
 
-/// What goes out for what came: an answer, which drops what waits; a value, of which all behind its first unit waits; or what
-/// waits.
+/// What goes out for what came: an answer, which drops what waits; a value, of which all behind its first unit waits;
+/// or what waits.
 #[derive(Debug, Drop)]
 pub enum Word {
     Answers(Answer),

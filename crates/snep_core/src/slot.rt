@@ -1,7 +1,9 @@
 //! The slots of a client: what was staged on each, and how it ended.
 
 ghost use Rattle.std.specs.Prelude.{◌≡◌, ◌<◌, ◌≤◌, Some, length, set};
-ghost use Rattle.snep_core.specs.Slots.{AllFit, dropped, fresh_slots, has_staged, is_staged_at, job_from, marked_as, most_staged, noted, outcome_of, put_left, slot_at, slot_count, some_staged, staged_on, outcome_told};
+ghost use Rattle.snep_core.specs.Slots.{AllFit, dropped, fresh_slots, has_staged, is_staged_at, job_from, marked_as};
+ghost use Rattle.snep_core.specs.Slots.{most_staged, noted, outcome_of, put_left, slot_at, slot_count, some_staged};
+ghost use Rattle.snep_core.specs.Slots.{staged_on, outcome_told};
 ghost use Rattle.snep_core.specs.Calling.{slots_left};
 
 use crate::client::CLIENT_SAP;
@@ -72,7 +74,8 @@ impl Slot {
         matches!(self, Slot::Staged(_))
     }
 
-    /// Its message was put alone, which ended so: it was accepted, or rejected, or its far end was given up; else it waits still.
+    /// Its message was put alone, which ended so: it was accepted, or rejected, or its far end was given up; else it
+    /// waits still.
     fn end_put(&mut self, ended: Result<(), SnepFault>)
         ensures { self.new ≡ put_left ended self.old }
     {

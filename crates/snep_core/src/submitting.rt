@@ -64,7 +64,8 @@ impl ClientEnd {
     /// The first unit of a request, alone.
     fn begin_on(&mut self, sap: u8, most: Option<u32>, bytes: Bytes) -> Result<Job, SnepFault>
         ensures ok { IfOk result (λ job.
-            begins_on self.old.llc sap most bytes (miu_of (standing_of (own_of sap self.old.llc))) ≡ ready_so self.new.llc job) }
+            begins_on self.old.llc sap most bytes (miu_of (standing_of (own_of sap self.old.llc)))
+            ≡ ready_so self.new.llc job) }
         ensures going { OnOk result (self.new.spent ≡ self.old.spent) }
         ensures err { IfErr result (λ e. e ≡ SnepFault.Memory) }
         ensures spent { IfErr result (λ e. self.new.spent ≡ true) }
@@ -86,7 +87,8 @@ impl ClientEnd {
     /// What is left of a request, as far as the window allows.
     fn send_on(&mut self, sap: u8, most: Option<u32>, bytes: Bytes) -> Result<Job, SnepFault>
         ensures ok { IfOk result (λ job.
-            sends_on self.old.llc sap most bytes (miu_of (standing_of (own_of sap self.old.llc))) ≡ ready_so self.new.llc job) }
+            sends_on self.old.llc sap most bytes (miu_of (standing_of (own_of sap self.old.llc)))
+            ≡ ready_so self.new.llc job) }
         ensures going { OnOk result (self.new.spent ≡ self.old.spent) }
         ensures err { IfErr result (λ e. e ≡ SnepFault.Memory) }
         ensures spent { IfErr result (λ e. self.new.spent ≡ true) }

@@ -1,12 +1,14 @@
 //! What a client exchanges with a far end until its jobs are over.
 
 ghost use Rattle.std.specs.Prelude.{◌≡◌, ◌<◌, ℕ, List, false, true, [], IfOk, IfErr, OnOk};
-ghost use Rattle.snep_core.specs.Calling.{ExchangedOnce, FailsAt, FailsBy, IsCut, IsStep, Talks, Turned, fault_of, is_memory};
+ghost use Rattle.snep_core.specs.Calling.{ExchangedOnce, FailsAt, FailsBy, IsCut, IsStep, Talks, Turned, fault_of};
+ghost use Rattle.snep_core.specs.Calling.{is_memory};
 ghost use Rattle.snep_core.specs.Jobs.{Over};
 ghost use Rattle.snep_core.specs.Listening.{all_awaiting, forgets};
 ghost use Rattle.snep_core.specs.RepliesLeft.{IsUnderWay};
 ghost use Rattle.snep_core.specs.Slots.{noted};
-ghost use Rattle.snep_core.specs.Talk.{AreApart, Ends, OnSap, all_over as over_by, begun, idle_after, most_idle, one_on, ready, saps as saps_by, settled};
+ghost use Rattle.snep_core.specs.Talk.{AreApart, Ends, OnSap, all_over as over_by, begun, idle_after, most_idle};
+ghost use Rattle.snep_core.specs.Talk.{one_on, ready, saps as saps_by, settled};
 ghost use Rattle.snep_core.specs.private.Waning.{IsOf, aim_of};
 ghost use Rattle.snep_core.specs.declared.fault.SnepFault.{SnepFault};
 ghost use Rattle.snep_core.specs.declared.job.Ending.{Ending as Ending_};
@@ -102,8 +104,8 @@ impl ClientEnd {
         Ok(all)
     }
 
-    /// One exchange: the next payload goes out, with so many PDUs, and its reply is taken. Given back are the jobs as they
-    /// stood between the two.
+    /// One exchange: the next payload goes out, with so many PDUs, and its reply is taken. Given back are the jobs as
+    /// they stood between the two.
     fn exchange<C: Carrier, A: Answerer>(
         &mut self,
         carrier: &mut C,
@@ -215,8 +217,8 @@ impl ClientEnd {
         }
     }
 
-    /// Exchanges until all jobs are over, each on a connection of its own, or the far end is given up. The messages that wait
-    /// in slots are answered as the jobs of their SAPs are.
+    /// Exchanges until all jobs are over, each on a connection of its own, or the far end is given up. The messages
+    /// that wait in slots are answered as the jobs of their SAPs are.
     pub(crate) fn converse_all<C: Carrier, A: Answerer>(
         &mut self,
         carrier: &mut C,
@@ -275,11 +277,13 @@ impl ClientEnd {
     ) -> Result<Ending, SnepFault>
         requires ready { C.ready carrier.old }
         requires going { self.old.spent ≡ false }
-        ensures ok { IfOk result (λ ending. Talks C.seen C.swaps A.steps A.stops counts (begun self.old.llc (one_on sap first))
+        ensures ok { IfOk result (λ ending. Talks C.seen C.swaps A.steps A.stops counts
+            (begun self.old.llc (one_on sap first))
             carrier.old far.old (Ends (one_on sap (Over ending)) self.new.llc) carrier.new far.new) }
         ensures aim { IfOk result (λ ending. IsOf (aim_of first) ending) }
         ensures going { OnOk result (self.new.spent ≡ false) }
-        ensures err { IfErr result (λ e. FailsBy C.seen C.swaps A.steps A.stops counts (begun self.old.llc (one_on sap first))
+        ensures err { IfErr result (λ e. FailsBy C.seen C.swaps A.steps A.stops counts
+            (begun self.old.llc (one_on sap first))
             carrier.old far.old e self.new.llc carrier.new far.new) }
         ensures spent { IfErr result (λ e. self.new.spent ≡ is_memory e) }
         ensures ready { C.ready carrier.new }

@@ -1,8 +1,8 @@
 //! The tests of `snep_core`, over its public calls.
 //!
-//! `ends` is what the tests of a client have in common: a carrier without an air, clients and ends with a server, and the steps
-//! of a test's table. `server_tests` are those of a server unit by unit, `link_tests` those of one as the service of an end.
-//! This crate is one of its own since a crate with tests is proved a second time with them.
+//! `ends` is what the tests of a client have in common: a carrier without an air, clients and ends with a server, and
+//! the steps of a test's table. `server_tests` are those of a server unit by unit, `link_tests` those of one as the
+//! service of an end. This crate is one of its own since a crate with tests is proved a second time with them.
 #![tactic(auto)]
 
 #[cfg(test)]

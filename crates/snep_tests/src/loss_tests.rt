@@ -1,7 +1,7 @@
 //! Messages of several slots over a link that is lost behind each payload in turn, compared with a plain definition.
 //!
-//! A message is accepted as the payload with its last unit reaches the server, and its slot tells the answer once the reply to
-//! that payload is heard. So a table says which reply brings the answer of each message, and all else follows.
+//! A message is accepted as the payload with its last unit reaches the server, and its slot tells the answer once the
+//! reply to that payload is heard. So a table says which reply brings the answer of each message, and all else follows.
 
 use crate::ends::{Step, Straight, client, new_ends, numbered, outcome, peer, roomy_ends, staged};
 use llcp_link::Llc;
@@ -203,8 +203,8 @@ fn loses(rt: &impl Abort, alloc: Global, way: &Way, loss: Loss) -> Result<(), Fa
     Ok(())
 }
 
-/// The link is lost behind each number of payloads, before the far end is handed the next one and behind that; last of all it
-/// stays.
+/// The link is lost behind each number of payloads, before the far end is handed the next one and behind that; last of
+/// all it stays.
 fn loses_each(rt: &impl Abort, alloc: Global, way: &Way, answers: bool) -> Result<(), Fail> {
     for passes in 0..=way.payloads {
         loses(rt, alloc, way, (passes, answers))?;

@@ -1,4 +1,5 @@
-//! What becomes of messages on slots: on a busy one, by any numbers of PDUs, and at a far end that isn't this project's.
+//! What becomes of messages on slots: on a busy one, by any numbers of PDUs, and at a far end that isn't this
+//! project's.
 
 ghost use Rattle.std.specs.Prelude.{◌≤◌, length};
 
@@ -209,8 +210,8 @@ impl Answerer for Scripted {
     ghost fits = { Prim.search rules };
 }
 
-/// Two messages of a unit, at a far end that gives these replies: it is given up behind so many payloads, and a later call puts
-/// nothing of them.
+/// Two messages of a unit, at a far end that gives these replies: it is given up behind so many payloads, and a later
+/// call puts nothing of them.
 fn gives_up(
     rt: &impl Abort,
     alloc: Global,

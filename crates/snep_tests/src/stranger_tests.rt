@@ -190,7 +190,8 @@ fn an_answer_before_all_was_given_is_a_bad_peer(rt: HostRuntime) -> Result<(), F
     Ok(())
 }
 
-/// Two puts of a client at a stranger that answers the second of four units by success: the second put is one of a byte.
+/// Two puts of a client at a stranger that answers the second of four units by success: the second put is one of a
+/// byte.
 fn puts_twice(
     rt: &impl Abort,
     alloc: Global,

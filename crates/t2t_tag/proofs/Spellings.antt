@@ -1,5 +1,6 @@
 -- A frame spells at most one command, and that is the one read from it.
-use Rattle.std.proofs.Common.{◌≡◌, ℕ, List, [], ◌∷◌, length, drop, slice_index, slice_index_or, Bool, true, false, ◌==◌, ◌&&◌, if◌then◌else◌, Option, Some, None, IsNone, ◌↔◌, refl, sym, ◌∙◌, ap, subst, arith}
+use Rattle.std.proofs.Common.{◌≡◌, ℕ, List, [], ◌∷◌, length, drop, slice_index, slice_index_or, Bool, true, false, ◌==◌, ◌&&◌, if◌then◌else◌, Option, Some, None, IsNone, ◌↔◌, refl, sym, ◌∙◌, ap}
+use Rattle.std.proofs.Common.{subst, arith}
 use Rattle.nfc_base.specs.declared.frame.Tech.{Tech}
 use Rattle.nfc_base.specs.declared.frame.Tech.TheVariants.{A, V, F}
 use Rattle.nfc_base.specs.Signal.{Signal, signal, whole_a, is_nfc_a}
@@ -58,7 +59,8 @@ six_bytes (a ∷ b ∷ c ∷ d ∷ e ∷ []) h = absurd (omega (arith, h))
 six_bytes (a ∷ b ∷ c ∷ d ∷ e ∷ f ∷ []) h = refl
 six_bytes (a ∷ b ∷ c ∷ d ∷ e ∷ f ∷ g ∷ rest) h = absurd (omega (arith, h))
 
-by_heads : (f : Signal) (v w : Bool) → is_headed 2 t2_read_code f ≡ v → is_headed 6 t2_write_code f ≡ w → v ≡ false → w ≡ true → spelled_command f ≡ Some (Write (slice_index f.bytes 1) (drop 2 f.bytes))
+by_heads : (f : Signal) (v w : Bool) → is_headed 2 t2_read_code f ≡ v → is_headed 6 t2_write_code f ≡ w → v ≡ false → w ≡ true
+    → spelled_command f ≡ Some (Write (slice_index f.bytes 1) (drop 2 f.bytes))
 by_heads f true w r s v t = absurd cc
 by_heads f false false r s v t = absurd cc
 by_heads f false true r s v t = rw r (rw s refl)

@@ -19,7 +19,8 @@ pub record OnFrame (m : T2Memory) (P : Option Signal → T2Memory → Type 0) : 
   pub refused : P (Some (answer_frame Refused)) m
   pub written : (block : ℕ) (content : List ℕ) → 4 ≤ block → block < block_count m.store → length content ≡ 4 → P (Some (answer_frame Done)) (record m { store = with_block 4 m.store block content })
 
-on_command : (m : T2Memory) (P : Option Signal → T2Memory → Type 0) → OnFrame m P → (c : Option T2Command) → ((block : ℕ) (content : List ℕ) → c ≡ Some (Write block content) → length content ≡ 4) → P (reply_frame m c) (held_after m c)
+on_command : (m : T2Memory) (P : Option Signal → T2Memory → Type 0) → OnFrame m P → (c : Option T2Command) → ((block : ℕ) (content : List ℕ) → c ≡ Some (Write block content) → length content ≡ 4)
+    → P (reply_frame m c) (held_after m c)
 on_command m P on None long = on.none
 on_command m P on (Some (Read block)) long = on.read block
 on_command m P on (Some (Write block content)) long = by_test (is_writable m block) refl

@@ -1,6 +1,7 @@
 -- The step of a Type 2 tag (NFC Forum Type 2 Tag). Which frame a tag refuses, and that it refuses by the four bits 0h
 -- alone, is this project's own.
-use Rattle.std.specs.Prelude.{ℕ, ◌+◌, ◌%◌, List, ◌++◌, Bool, ◌&&◌, not, nat_le, nat_lt, if◌then◌else◌, Option, Some, None}
+use Rattle.std.specs.Prelude.{ℕ, ◌+◌, ◌%◌, List, ◌++◌, Bool, ◌&&◌, not, nat_le, nat_lt, if◌then◌else◌, Option, Some}
+use Rattle.std.specs.Prelude.{None}
 use Rattle.nfc_base.specs.Signal.{Signal}
 use Rattle.nfc_base.specs.Blocks.{with_block, block_of}
 use Rattle.t2t_tag.specs.declared.command.T2Command.{T2Command}
@@ -16,7 +17,8 @@ rolled store block = block_of 4 store (block % block_count store)
 
 -- the content of four blocks from one on
 abbrev pub four_blocks : List ℕ → ℕ → List ℕ
-four_blocks store block = rolled store block ++ rolled store (block + 1) ++ rolled store (block + 2) ++ rolled store (block + 3)
+four_blocks store block = rolled store block ++ rolled store (block + 1) ++ rolled store (block + 2)
+    ++ rolled store (block + 3)
 
 -- A block may be written where it isn't one of the first four, the store has it and it isn't locked.
 abbrev pub is_writable : T2Memory → ℕ → Bool
@@ -30,7 +32,8 @@ t2_reply m (Write block content) = if is_writable m block then Done else Refused
 -- what the tag holds after a command
 abbrev pub t2_obeyed : T2Memory → T2Command → T2Memory
 t2_obeyed m (Read block) = m
-t2_obeyed m (Write block content) = if is_writable m block then record m { store = with_block 4 m.store block content } else m
+t2_obeyed m (Write block content) = if is_writable m block then record m { store = with_block 4 m.store block content }
+    else m
 
 -- the answer to what a frame spells, and what the tag then holds: a frame that spells no command gets no answer and
 -- changes nothing

@@ -1,5 +1,6 @@
 -- What a Type 2 tag holds (NFC Forum Type 2 Tag).
-use Rattle.std.specs.Prelude.{◌≡◌, ℕ, ◌+◌, ◌*◌, ◌/◌, ◌%◌, ◌≤◌, List, length, take, get_or, slice_index, set, replicate, Bool, true, false}
+use Rattle.std.specs.Prelude.{◌≡◌, ℕ, ◌+◌, ◌*◌, ◌/◌, ◌%◌, ◌≤◌, List, length, take, get_or, slice_index, set, replicate}
+use Rattle.std.specs.Prelude.{Bool, true, false}
 use Rattle.t2t_tag.specs.declared.tag.StoreFault.{StoreFault}
 use Rattle.t2t_tag.specs.declared.tag.StoreFault.TheVariants.{BadStore}
 
@@ -13,7 +14,8 @@ pub record IsT2Store (store : List ℕ) : Type 0 where
   pub whole : length store % 4 ≡ 0
   pub least : 4 ≤ block_count store
   pub most : block_count store ≤ 256
-  pub area : slice_index store 12 ≡ 0xE1 → slice_index store 14 ≤ 0x7E → 4 + 2 * slice_index store 14 ≤ block_count store
+  pub area : slice_index store 12 ≡ 0xE1 → slice_index store 14 ≤ 0x7E
+      → 4 + 2 * slice_index store 14 ≤ block_count store
 
 -- the first four blocks, with the container, which no command writes
 abbrev pub fixed_size : ℕ

@@ -4,7 +4,8 @@ ghost use Rattle.std.specs.Prelude.{◌≡◌, ◌<◌, ◌↔◌, length, IfOk,
 ghost use Rattle.nfc_base.specs.Blocks.{block_of};
 ghost use Rattle.t2t_tag.specs.declared.answer.T2Answer.TheVariants.{Refused};
 ghost use Rattle.t2t_tag.specs.Spelling.{answer_frame};
-ghost use Rattle.t2t_tag.specs.Store.{IsT2Store, T2Memory, IsT2Memory, IsSameTag, block_count, unlocked, locked_too, store_fault_number};
+ghost use Rattle.t2t_tag.specs.Store.{IsT2Store, T2Memory, IsT2Memory, IsSameTag, block_count, unlocked, locked_too};
+ghost use Rattle.t2t_tag.specs.Store.{store_fault_number};
 ghost use Rattle.t2t_tag.specs.Step.{four_blocks, t2_reply, t2_obeyed, t2_answer, t2_after};
 
 use crate::answer::T2Answer;

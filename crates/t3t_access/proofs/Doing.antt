@@ -1,5 +1,6 @@
 -- What is told of an Update, and an Update more that is done.
-use Rattle.std.proofs.Common.{◌≡◌, ℕ, suc, inl, inr, ◌*◌, ◌<◌, ◌≤◌, List, [], length, Bool, true, false, not, nat_eq, nat_lt, ◌==◌, if◌then◌else◌, Option, Some, None, Result, Ok, Err, ◌↔◌, refl, sym, ◌∙◌, ap, subst, arith}
+use Rattle.std.proofs.Common.{◌≡◌, ℕ, suc, inl, inr, ◌*◌, ◌<◌, ◌≤◌, List, [], length, Bool, true, false, not, nat_eq, nat_lt, ◌==◌, if◌then◌else◌, Option, Some, None, Result, Ok, Err, ◌↔◌, refl, sym}
+use Rattle.std.proofs.Common.{◌∙◌, ap, subst, arith}
 use Rattle.std.specs.Cmp.Lexicographic.{pointwise}
 use Rattle.nfc_base.specs.Signal.{Signal}
 use Rattle.nfc_base.specs.TagLinks.{LinkView}
@@ -13,7 +14,8 @@ use Rattle.t3t_access.specs.declared.fault.T3Fault.{T3Fault}
 use Rattle.t3t_access.specs.declared.fault.T3Fault.TheVariants as fault
 use Rattle.t3t_access.specs.Answers.{IsOdd}
 use Rattle.t3t_access.specs.Reading.{Reads}
-use Rattle.t3t_access.specs.Writing.{closed, content_at, blocks_of, Put, put_at, all_puts, first_asked, SaysDone, RefusesUpdate, TellsDone, TellsUpdate, done_told, Takes, admitted, Writes, Breaks, WriteFaultTold, WriteTold, PartTold}
+use Rattle.t3t_access.specs.Writing.{closed, content_at, blocks_of, Put, put_at, all_puts, first_asked, SaysDone, RefusesUpdate, TellsDone, TellsUpdate, done_told, Takes, admitted, Writes, Breaks}
+use Rattle.t3t_access.specs.Writing.{WriteFaultTold, WriteTold, PartTold}
 
 module _ (id : List ℕ) (r : Signal) where
   abbrev Exact : Option T3Answer → Type 0
@@ -64,11 +66,13 @@ module _ (id : List ℕ) (r : Signal) where
       id_of _ = []
 
 -- one Update more
-pub does : (id : List ℕ) (a m b : LinkView) (block message : List ℕ) (n : ℕ) (p : Put) (result : Result (Unit {0}) T3Fault) → Writes id a m block message n → n < all_puts message → put_at block message n ≡ p
+pub does : (id : List ℕ) (a m b : LinkView) (block message : List ℕ) (n : ℕ) (p : Put) (result : Result (Unit {0}) T3Fault) → Writes id a m block message n → n < all_puts message
+    → put_at block message n ≡ p
     → TellsUpdate id p.block p.content a b (first_asked id block message n) result → PartTold id a b block message (suc n) result
 does id a m b block message n p result w due is told = by_result result (subst (λ (q : Put). TellsUpdate id q.block q.content a b (first_asked id block message n) result) (sym is) told)
   where
-    by_result : (s : Result (Unit {0}) T3Fault) → TellsUpdate id (put_at block message n).block (put_at block message n).content a b (first_asked id block message n) s → PartTold id a b block message (suc n) s
+    by_result : (s : Result (Unit {0}) T3Fault) → TellsUpdate id (put_at block message n).block (put_at block message n).content a b (first_asked id block message n) s
+        → PartTold id a b block message (suc n) s
     by_result (Ok done') h = record { begun = w.begun; reads = w.reads; takes = w.takes; answered = h.answered; done' = (w.done', h.reply, h.says, h.holds) }
     by_result (Err e) h = record { block = block; number = n; before = m; writes = w; due = due; told = h }
 
@@ -151,6 +155,7 @@ broken id a b message (fault.TooLong most) h = absurd h.told
 broken id a b message fault.Protocol h = inr h
 broken id a b message fault.Unfinished h = absurd h.told
 
-pub write_told : (id : List ℕ) (a b : LinkView) (block message : List ℕ) (result : Result (Unit {0}) T3Fault) → PartTold id a b block message (all_puts message) result → WriteTold id a b message result
+pub write_told : (id : List ℕ) (a b : LinkView) (block message : List ℕ) (result : Result (Unit {0}) T3Fault) → PartTold id a b block message (all_puts message) result
+    → WriteTold id a b message result
 write_told id a b block message (Ok done') h = record { block = block; writes = h }
 write_told id a b block message (Err e) h = broken id a b message e h

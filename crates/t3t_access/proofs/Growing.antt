@@ -22,7 +22,8 @@ abbrev pub NextTold : List ℕ → LinkView → LinkView → List Signal → ℕ
 NextTold id a b cs first count result = TellsCheck id first count a b cs result
 
 -- one Check more is answered
-pub goes_on : (id : List ℕ) (a m b : LinkView) (block bytes : List ℕ) (taken count : ℕ) (x : List ℕ) → IsSized block → write_flag block ≡ 0 → IsUnder id a m block bytes taken → taken < needed block → count ≡ min (most_at_once block) (needed block - taken)
+pub goes_on : (id : List ℕ) (a m b : LinkView) (block bytes : List ℕ) (taken count : ℕ) (x : List ℕ) → IsSized block → write_flag block ≡ 0 → IsUnder id a m block bytes taken → taken < needed block
+    → count ≡ min (most_at_once block) (needed block - taken)
     → take 16 (bytes ++ x) ≡ block → ((cs : List Signal) → Answered a m cs → NextTold id a b cs (1 + taken) count (Ok x)) → IsUnder id a b block (bytes ++ x) (taken + count)
 goes_on id a m b block bytes taken count x sized flag under less is head told =
     let n : ℕ = under.number in

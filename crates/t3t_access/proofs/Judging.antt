@@ -1,5 +1,6 @@
 -- What the Check of block 0 tells.
-use Rattle.std.proofs.Common.{◌≡◌, ◌≢◌, ℕ, ◌*◌, ◌<◌, inl, inr, ◌⊎◌, List, [], ◌∷◌, length, take, Bool, true, false, not, nat_lt, ◌==◌, ◌||◌, if◌then◌else◌, Result, Ok, Err, IfOk, IfErr, refl, sym, ◌∙◌, ap, subst, arith}
+use Rattle.std.proofs.Common.{◌≡◌, ◌≢◌, ℕ, ◌*◌, ◌<◌, inl, inr, ◌⊎◌, List, [], ◌∷◌, length, take, Bool, true, false, not, nat_lt, ◌==◌, ◌||◌, if◌then◌else◌, Result, Ok, Err, IfOk, IfErr, refl, sym}
+use Rattle.std.proofs.Common.{◌∙◌, ap, subst, arith}
 use Rattle.arrayvec.specs.ArrayVec.{ArrayVec}
 use Rattle.nfc_base.specs.TagLinks.{LinkView}
 use Rattle.t3t_tag.specs.Attributes.{most_checked, most_updated, message_blocks, message_length, major_version, is_summed}

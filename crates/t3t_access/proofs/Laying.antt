@@ -1,5 +1,6 @@
 -- The blocks that a write makes, and the stores that it makes of them.
-use Rattle.std.proofs.Common.{◌≡◌, ◌≢◌, ℕ, zero, suc, inl, inr, ◌+◌, ◌-◌, ◌*◌, ◌/◌, ◌%◌, ◌<◌, ◌≤◌, List, [], ◌∷◌, ◌++◌, length, take, drop, replicate, sum, Bool, true, false, nat_lt, if◌then◌else◌, refl, sym, ◌∙◌, ap, subst, append_assoc, append-nil, arith}
+use Rattle.std.proofs.Common.{◌≡◌, ◌≢◌, ℕ, zero, suc, inl, inr, ◌+◌, ◌-◌, ◌*◌, ◌/◌, ◌%◌, ◌<◌, ◌≤◌, List, [], ◌∷◌, ◌++◌, length, take, drop, replicate, sum, Bool, true, false, nat_lt, if◌then◌else◌}
+use Rattle.std.proofs.Common.{refl, sym, ◌∙◌, ap, subst, append_assoc, append-nil, arith}
 use Rattle.std.proofs.lemmas.List.{length-append, length-take-le, length-drop, length-replicate, take-append-drop, take-append-le}
 use Rattle.std.proofs.Math.Seq.{take-add, take-append_seam, drop-append_seam, drop-append-add}
 use Rattle.nfc_base.specs.Blocks.{with_block}
@@ -307,7 +308,11 @@ module _ (store message : List ℕ) (is : IsT3Store store) (takes : Takes (attri
       let other : write_flag block ≢ 0 = λ e. absurd (omega (arith, flag, e)) in
       let form : IsT3Form (laid store message block n) Unfinished =
       subst (λ x. IsSized x × (write_flag x ≢ 0)) (sym (attributes_laid store message block n long)) (sized, other) in
-      subst (IsBegun message store) (sym (at_open n few)) (record { form = form; same = same_laid store message block n long few room_behind; store = store_laid block n long (blocks_renewed old under_way (message_length old) long_old) few })
+      subst (IsBegun message store) (sym (at_open n few)) (record {
+        form = form;
+        same = same_laid store message block n long few room_behind;
+        store = store_laid block n long (blocks_renewed old under_way (message_length old) long_old) few;
+      })
 
   pub new_at : IsNew message store (store_at store message (suc (suc (blocks_of message))))
   new_at =

@@ -1,5 +1,6 @@
 -- A reading of a Type 3 tag that keeps to its table tells what its store holds, or why it can't.
-use Rattle.std.proofs.Common.{◌≡◌, ◌≢◌, ℕ, zero, suc, inl, inr, ◌⊎◌, ◌+◌, ◌*◌, ◌/◌, ◌≤◌, List, [], ◌∷◌, ◌++◌, length, take, drop, Bool, true, false, ◌==◌, Some, Result, Ok, Err, refl, sym, ◌∙◌, ap, subst, arith}
+use Rattle.std.proofs.Common.{◌≡◌, ◌≢◌, ℕ, zero, suc, inl, inr, ◌⊎◌, ◌+◌, ◌*◌, ◌/◌, ◌≤◌, List, [], ◌∷◌, ◌++◌, length, take, drop, Bool, true, false, ◌==◌, Some, Result, Ok, Err, refl, sym, ◌∙◌, ap}
+use Rattle.std.proofs.Common.{subst, arith}
 use Rattle.std.specs.List.{AllByRecursion}
 use Rattle.std.proofs.lemmas.List.{length-append, take-take, take-append-le, drop-take}
 use Rattle.std.proofs.Math.Seq.{take-add}
@@ -63,8 +64,10 @@ module _ (id : List ℕ) (locked : List Bool) (a : LinkView) (tag : IsTag3 id lo
   own_more block old x n r own w says brings =
       let now : after_all a.step a.state (first_checks id block n) ≡ a.state = stays_all a.step a.state (first_checks id block n) own.keeps in
       let said : (a.step a.state (check_at id block n)).answer ≡ Some r = ap (λ s. (a.step s (check_at id block n)).answer) (sym now) ∙ says in
-      let content : x ≡ part a.state.store (so_far block n) (count_at block n) = same_content id x (part a.state.store (so_far block n) (count_at block n)) r brings.1 (next_content block n w r said) in
-      let sum : 16 * so_far block n + 16 * count_at block n ≡ 16 * so_far block (suc n) = (let e : so_far block n + count_at block n ≡ so_far block (suc n) = so_far_more block n in omega (arith, e)) in
+      let content : x ≡ part a.state.store (so_far block n) (count_at block n) = same_content id x (part a.state.store (so_far block n) (count_at block n)) r brings.1
+      (next_content block n w r said) in
+      let sum : 16 * so_far block n + 16 * count_at block n ≡ 16 * so_far block (suc n) = (let e : so_far block n + count_at block n ≡ so_far block (suc n) = so_far_more block n in
+      omega (arith, e)) in
       record {
         keeps = all_append (Keeps a) (first_checks id block n) (check_at id block n ∷ []) own.keeps (next_keeps block n w, tt);
         bytes' =
@@ -182,7 +185,8 @@ module _ (id : List ℕ) (locked : List Bool) (a : LinkView) (tag : IsTag3 id lo
       let x : T3Answer = Content id (record { items = part a.state.store (so_far s.block s.number) (count_at s.block s.number) }) in
       absurd (let same : x ≡ CheckRefused id status = one_answer h.reply x (CheckRefused id status) (at.content h.reply h.says) h.holds in cc)
 
-  no_odd : (b : LinkView) (e : T3Fault) (s : Stops id a b e) → IsHeard (IsOdd (Brings id (16 * count_at s.block s.number)) (RefusesCheck id)) a b (first_checks id s.block s.number) (check_at id s.block s.number) → ⊥
+  no_odd : (b : LinkView) (e : T3Fault) (s : Stops id a b e) → IsHeard (IsOdd (Brings id (16 * count_at s.block s.number)) (RefusesCheck id)) a b (first_checks id s.block s.number)
+      (check_at id s.block s.number) → ⊥
   no_odd b e s h =
       let at : AtStop b s.block s.number = at_stop b e s in
       h.holds.no_grant (part a.state.store (so_far s.block s.number) (count_at s.block s.number)) (at.long, at.content h.reply h.says)

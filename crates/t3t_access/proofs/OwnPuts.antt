@@ -33,11 +33,13 @@ module _ (id : List ℕ) (locked : List Bool) (a : LinkView) (tag : IsTag3 id lo
   is_due : (takes : Takes own message) (n : ℕ) → AllDone id a own message n → (k : ℕ) → k ≤ n → k < all_puts message → Due k
   is_due takes n all k few some = record { takes = takes; some = some; free = λ j less. free_all id locked a tag message takes n all j (omega (arith, less, few)) }
 
-  more_asked : (b : LinkView) (takes : Takes own message) (n : ℕ) → AllDone id a own message n → n < all_puts message → Answered a b (first_asked id own message (suc n)) → WritesInOrder id locked message a b (suc n)
+  more_asked : (b : LinkView) (takes : Takes own message) (n : ℕ) → AllDone id a own message n → n < all_puts message → Answered a b (first_asked id own message (suc n))
+      → WritesInOrder id locked message a b (suc n)
   more_asked b takes n all some is =
       record { due = λ k less. is_due takes n all k (omega (arith, less)) (omega (arith, less, some)); answered = is.answered; last = inl (is.last, is.over) }
 
-  failed : (b : LinkView) (takes : Takes own message) (n : ℕ) (f : AskFault) → AllDone id a own message n → n < all_puts message → Fails a b (first_asked id own message n) (command_at id own message n) f
+  failed : (b : LinkView) (takes : Takes own message) (n : ℕ) (f : AskFault) → AllDone id a own message n → n < all_puts message
+      → Fails a b (first_asked id own message n) (command_at id own message n) f
       → WritesInOrder id locked message a b n
   failed b takes n f all some is = record { due = λ k less. is_due takes n all k (omega (arith, less)) (omega (arith, less, some)); answered = is.answered; last = by_last is.last }
     where
@@ -49,7 +51,8 @@ module _ (id : List ℕ) (locked : List Bool) (a : LinkView) (tag : IsTag3 id lo
   breaks : (b : LinkView) (takes : Takes own message) (n : ℕ) → AllDone id a own message n → n < all_puts message → (e : T3Fault)
       → StopsUpdate id a b (first_asked id own message n) (command_at id own message n) e → AsksUpdates id locked message a b (Err e)
   breaks b takes n all some (fault.Refused status) h =
-      let barred : get_or locked (put_at own message n).block false ≡ true = locked_of id locked a tag message takes h.reply n status (said_now id locked a tag message takes n all h.reply h.says) h.holds in
+      let barred : get_or locked (put_at own message n).block false ≡ true = locked_of id locked a tag message takes h.reply n status (said_now id locked a tag message takes n all h.reply h.says)
+      h.holds in
       record {
         count = suc n;
         asks = more_asked b takes n all some h.answered;
@@ -108,7 +111,12 @@ module _ (id : List ℕ) (locked : List Bool) (a : LinkView) (tag : IsTag3 id lo
   faults b (fault.TooLong most) h =
       let same : h.block ≡ own = sym h.reads.head ∙ head_own id locked a tag h.block 0 h.block h.reads.brought in
       let room : most ≡ 16 * message_blocks own = h.most' ∙ ap (λ x. 16 * message_blocks x) same in
-      inl (record { count = 0; asks = checked b h.reads.answered; whole = λ (d : Due 0). let fits : length message ≤ 16 * message_blocks own = d.takes.room in absurd (omega (arith, room, h.long, fits)) })
+      inl (record {
+        count = 0;
+        asks = checked b h.reads.answered;
+        whole = λ (d : Due 0). let fits : length message ≤ 16 * message_blocks own = d.takes.room in
+            absurd (omega (arith, room, h.long, fits));
+      })
   faults b fault.NotNdef h = start_or b fault.NotNdef h
   faults b fault.Version h = start_or b fault.Version h
   faults b fault.BadSize h = start_or b fault.BadSize h

@@ -1,5 +1,6 @@
 -- A write to a Type 3 tag that keeps to its table: what its stores are at every exit.
-use Rattle.std.proofs.Common.{◌≡◌, ◌≢◌, ℕ, zero, suc, inl, inr, ◌⊎◌, ◌*◌, ◌<◌, ◌≤◌, List, [], ◌∷◌, ◌++◌, get_or, Bool, true, false, nat_lt, nat_le, ◌==◌, if◌then◌else◌, Some, Result, Ok, Err, refl, sym, ◌∙◌, ap, subst, append_assoc, append-nil, arith}
+use Rattle.std.proofs.Common.{◌≡◌, ◌≢◌, ℕ, zero, suc, inl, inr, ◌⊎◌, ◌*◌, ◌<◌, ◌≤◌, List, [], ◌∷◌, ◌++◌, get_or, Bool, true, false, nat_lt, nat_le, ◌==◌, if◌then◌else◌, Some, Result, Ok, Err, refl}
+use Rattle.std.proofs.Common.{sym, ◌∙◌, ap, subst, append_assoc, append-nil, arith}
 use Rattle.std.specs.List.{AllByRecursion}
 use Rattle.nfc_base.specs.Signal.{Signal}
 use Rattle.nfc_base.specs.TagLinks.{LinkView, TagState, TagStep, Type3, MayAsk, PassInThree, after_all, passed}
@@ -233,7 +234,15 @@ module _ (id : List ℕ) (locked : List Bool) (a : LinkView) (tag : IsTag3 id lo
   Three stores = PassInThree Old Begun New (a.state.store ∷ stores)
 
   three_old : (stores : List (List ℕ)) → AllByRecursion Old stores → Three stores
-  three_old stores all = record { before = a.state.store ∷ stores; during = []; behind = []; joined = ap (λ t. a.state.store ∷ t) (sym (append-nil stores)); olds = (refl, all); empties = tt; news = tt }
+  three_old stores all = record {
+    before = a.state.store ∷ stores;
+    during = [];
+    behind = [];
+    joined = ap (λ t. a.state.store ∷ t) (sym (append-nil stores));
+    olds = (refl, all);
+    empties = tt;
+    news = tt;
+  }
 
   three_two : (stores : List (List ℕ)) → InTwo Old Begun stores → Three stores
   three_two stores two = record {
@@ -258,7 +267,8 @@ module _ (id : List ℕ) (locked : List Bool) (a : LinkView) (tag : IsTag3 id lo
   }
 
   -- what one Update more left: the store before it, or the one that it makes
-  three_more : (n : ℕ) → n < all_puts message → AllDone id a block message n → (s : List ℕ) → (s ≡ after_puts n) ⊎ (s ≡ after_puts (suc n)) → (stores front last : List (List ℕ)) → stores ≡ front ++ last
+  three_more : (n : ℕ) → n < all_puts message → AllDone id a block message n → (s : List ℕ) → (s ≡ after_puts n) ⊎ (s ≡ after_puts (suc n)) → (stores front last : List (List ℕ))
+      → stores ≡ front ++ last
       → Spread a.step a.state (asked n) front → AllByRecursion (λ t. t ≡ s) last → Three stores
   three_more zero due all s (inl e) stores front last joined before each =
       three_old stores (subst (AllByRecursion Old) (sym joined) (all_append Old front last (first_stores front before) (all_of Old s last e each)))
@@ -359,7 +369,8 @@ module _ (id : List ℕ) (locked : List Bool) (a : LinkView) (tag : IsTag3 id lo
   status_of (UpdateRefused i s) = s
   status_of _ = 0
 
-  refused : (b : LinkView) (n : ℕ) → n < all_puts message → AllDone id a block message n → (status : ℕ) → IsHeard (RefusesUpdate id status) a b (asked n) (command n) → IsWrite3 locked message a b (Err (fault.Refused status))
+  refused : (b : LinkView) (n : ℕ) → n < all_puts message → AllDone id a block message n → (status : ℕ) → IsHeard (RefusesUpdate id status) a b (asked n) (command n)
+      → IsWrite3 locked message a b (Err (fault.Refused status))
   refused b n due all status h = by_value (get_or locked (place n) false) refl
     where
       said : (a.step (now n) (command n)).answer ≡ Some h.reply
@@ -502,4 +513,5 @@ module _ (id : List ℕ) (locked : List Bool) (a : LinkView) (tag : IsTag3 id lo
       let w : Writes id a b h.block message (all_puts message) = h.writes in
       let same : h.block ≡ attributes a.state.store = sym w.reads.head ∙ head_own id locked a tag h.block 0 h.block w.reads.brought in
       let takes : Takes (attributes a.state.store) message = subst (λ x. Takes x message) same w.takes in
-      own_done id locked a tag message takes b (subst (λ x. Answered a b (first_asked id x message (all_puts message))) same w.answered) (subst (λ x. AllDone id a x message (all_puts message)) same w.done')
+      own_done id locked a tag message takes b (subst (λ x. Answered a b (first_asked id x message (all_puts message))) same w.answered)
+      (subst (λ x. AllDone id a x message (all_puts message)) same w.done')

@@ -1,5 +1,6 @@
 -- What the selection of a Type 3 tag answers follows from what it heard.
-use Rattle.std.proofs.Common.{◌≡◌, ◌⊎◌, ◌<◌, ◌≤◌, ℕ, ◌+◌, List, [], ◌∷◌, ◌++◌, Bool, true, false, not, ◌&&◌, nat_lt, if◌then◌else◌, inl, inr, Option, Some, None, Result, Ok, Err, refl, sym, ◌∙◌, subst, arith}
+use Rattle.std.proofs.Common.{◌≡◌, ◌⊎◌, ◌<◌, ◌≤◌, ℕ, ◌+◌, List, [], ◌∷◌, ◌++◌, Bool, true, false, not, ◌&&◌, nat_lt, if◌then◌else◌, inl, inr, Option, Some, None, Result, Ok, Err, refl, sym, ◌∙◌}
+use Rattle.std.proofs.Common.{subst, arith}
 use Rattle.nfc_base.specs.Trace.{Turn, heard, is_silence}
 use Rattle.nfc_base.specs.declared.event.Heard.{Heard}
 use Rattle.nfc_base.specs.declared.event.Heard.TheVariants.{Whole, Collided, Damaged, Silent}
@@ -98,7 +99,8 @@ module _ (id : List ℕ) where
   by_heard n d ts us None v few a =
       (n, record { shown = a.shown refl ∙ v.shown; another = a.another refl ∙ v.another; strange = a.strange refl ∙ v.strange; silent = omega (arith, a.silent, v.silent) }, few)
   by_heard n d ts us (Some (Whole g)) v few a =
-      whole_tells (is_sensf_res g) (is_of id g) us n few (omega (arith, a.silent, v.silent)) (λ e. a.shown e ∙ v.shown) a.shows (λ e. a.another e ∙ v.another) a.others (λ e. a.strange e ∙ v.strange) a.stranger
+      whole_tells (is_sensf_res g) (is_of id g) us n few (omega (arith, a.silent, v.silent)) (λ e. a.shown e ∙ v.shown) a.shows (λ e. a.another e ∙ v.another) a.others (λ e. a.strange e ∙ v.strange)
+      a.stranger
   by_heard n d ts us (Some (Collided g)) v few a = tells_there us n few (omega (arith, a.silent, v.silent)) (a.shows refl) (a.another refl ∙ v.another) (a.strange refl ∙ v.strange)
   by_heard n d ts us (Some Damaged) v few a = tells_there us n few (omega (arith, a.silent, v.silent)) (a.shows refl) (a.another refl ∙ v.another) (a.strange refl ∙ v.strange)
   by_heard n d ts us (Some Silent) v few a =

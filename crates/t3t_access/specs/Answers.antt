@@ -1,5 +1,6 @@
 -- What the answers of a Type 3 tag tell its reader and its writer, whatever the tag does (NFC Forum Type 3 Tag).
-use Rattle.std.specs.Prelude.{◌≡◌, ℕ, zero, suc, ◌+◌, ◌*◌, ◌⊎◌, List, [], ◌∷◌, ◌++◌, length, nat_eq, ◌==◌, ◌&&◌, if◌then◌else◌, Option, Some, None, Result, Ok, Err}
+use Rattle.std.specs.Prelude.{◌≡◌, ℕ, zero, suc, ◌+◌, ◌*◌, ◌⊎◌, List, [], ◌∷◌, ◌++◌, length, nat_eq, ◌==◌, ◌&&◌}
+use Rattle.std.specs.Prelude.{if◌then◌else◌, Option, Some, None, Result, Ok, Err}
 use Rattle.std.specs.Cmp.Lexicographic.{pointwise}
 use Rattle.arrayvec.specs.ArrayVec.{ArrayVec}
 use Rattle.nfc_base.specs.Signal.{Signal}
@@ -55,7 +56,8 @@ pub record IsHeard (P : Signal → Type 0) (a b : LinkView) (cs : List Signal) (
   pub holds : P reply
 
 -- Why one command more isn't granted: by its answer, or the link is over by this fault.
-abbrev pub StopsNext : (List ℕ → Signal → Type 0) → (ℕ → Signal → Type 0) → LinkView → LinkView → List Signal → Signal → T3Fault → Type 0
+abbrev pub StopsNext : (List ℕ → Signal → Type 0) → (ℕ → Signal → Type 0) → LinkView → LinkView → List Signal → Signal
+    → T3Fault → Type 0
 StopsNext Grants Refuses a b cs c (fault.Refused status) = IsHeard (Refuses status) a b cs c
 StopsNext Grants Refuses a b cs c fault.Protocol = IsHeard (IsOdd Grants Refuses) a b cs c ⊎ Fails a b cs c ask.Protocol
 StopsNext Grants Refuses a b cs c fault.FieldLost = Fails a b cs c ask.FieldLost
@@ -64,18 +66,22 @@ StopsNext Grants Refuses a b cs c fault.Memory = Fails a b cs c ask.Memory
 StopsNext Grants Refuses a b cs c e = ⊥
 
 -- what is told of one command more
-abbrev pub TellsNext : (List ℕ → Signal → Type 0) → (ℕ → Signal → Type 0) → LinkView → LinkView → List Signal → Signal → Result (List ℕ) T3Fault → Type 0
+abbrev pub TellsNext : (List ℕ → Signal → Type 0) → (ℕ → Signal → Type 0) → LinkView → LinkView → List Signal → Signal
+    → Result (List ℕ) T3Fault → Type 0
 TellsNext Grants Refuses a b cs c (Ok x) = IsHeard (Grants x) a b cs c
 TellsNext Grants Refuses a b cs c (Err e) = StopsNext Grants Refuses a b cs c e
 
 -- what is told of the Check of so many blocks from one on
 abbrev pub TellsCheck : List ℕ → ℕ → ℕ → LinkView → LinkView → List Signal → Result (List ℕ) T3Fault → Type 0
-TellsCheck id first count a b cs result = TellsNext (Brings id (16 * count)) (RefusesCheck id) a b cs (check_of id first count) result
+TellsCheck id first count a b cs result = TellsNext (Brings id (16 * count)) (RefusesCheck id) a b cs
+    (check_of id first count) result
 
 -- the content of an answer to a Check, as a function
 abbrev pub content_told : List ℕ → ℕ → Option T3Answer → Result (List ℕ) T3Fault
-content_told id size (Some (Content from content)) = if pointwise nat_eq from id && (length content.items == size) then Ok content.items else Err fault.Protocol
-content_told id size (Some (CheckRefused from status)) = if pointwise nat_eq from id then Err (fault.Refused status) else Err fault.Protocol
+content_told id size (Some (Content from content)) = if pointwise nat_eq from id && (length content.items == size)
+    then Ok content.items else Err fault.Protocol
+content_told id size (Some (CheckRefused from status)) =
+    if pointwise nat_eq from id then Err (fault.Refused status) else Err fault.Protocol
 content_told id size (Some (Polled from)) = Err fault.Protocol
 content_told id size (Some (Done from)) = Err fault.Protocol
 content_told id size (Some (UpdateRefused from status)) = Err fault.Protocol

@@ -3,7 +3,8 @@ use Rattle.std.specs.Prelude.{ℕ}
 use Rattle.nfc_base.specs.declared.tag_link.AskFault.{AskFault}
 use Rattle.nfc_base.specs.declared.tag_link.AskFault.TheVariants as ask
 use Rattle.t3t_access.specs.declared.fault.T3Fault.{T3Fault}
-use Rattle.t3t_access.specs.declared.fault.T3Fault.TheVariants.{NotNdef, Version, BadSize, Refused, FieldLost, SixBad, Memory, ReadOnly, TooLong, Protocol, Unfinished}
+use Rattle.t3t_access.specs.declared.fault.T3Fault.TheVariants.{NotNdef, Version, BadSize, Refused, FieldLost, SixBad}
+use Rattle.t3t_access.specs.declared.fault.T3Fault.TheVariants.{Memory, ReadOnly, TooLong, Protocol, Unfinished}
 
 abbrev pub t3_fault_number : T3Fault → ℕ
 t3_fault_number NotNdef = 1

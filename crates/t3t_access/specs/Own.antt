@@ -26,8 +26,8 @@ pub record Stays (a b : LinkView) : Type 0 where
   pub leads : Leads a b more
   pub images : AllByRecursion (λ s. s ≡ a.state.store) (passed a.step a.state more)
 
--- Why a reading gives no message: by the form of the store, or by the link. Such a tag refuses no Check that is asked, and
--- answers nothing odd. Want of memory may be the reader's own.
+-- Why a reading gives no message: by the form of the store, or by the link. Such a tag refuses no Check that is asked,
+-- and answers nothing odd. Want of memory may be the reader's own.
 abbrev pub IsReadFault3 : LinkView → LinkView → T3Fault → Type 0
 IsReadFault3 a b fault.NotNdef = IsT3Form a.state.store NotNdef
 IsReadFault3 a b fault.Version = IsT3Form a.state.store Version
@@ -48,12 +48,13 @@ IsToldOrMemory e = Unit {0}
 
 pub record IsRead3 (a b : LinkView) (result : Result Found3 T3Fault) : Type 0 where
   pub stays : Stays a b
-  pub ok : IfOk result (λ found. IsT3Form a.state.store (Message found.message.items) × (found.writable ≡ is_writable a.state.store))
+  pub ok : IfOk result (λ found. IsT3Form a.state.store (Message found.message.items)
+      × (found.writable ≡ is_writable a.state.store))
   pub err : IfErr result (IsReadFault3 a b)
   pub calm : IsCalm a b → IfErr result IsToldOrMemory
 
--- What was answered is the first of what is asked of such a store: the Check of block 0, and the others while they are due. The
--- last one that was asked is the last of these, and ended no link, or the next.
+-- What was answered is the first of what is asked of such a store: the Check of block 0, and the others while they are
+-- due. The last one that was asked is the last of these, and ended no link, or the next.
 pub record AsksInOrder (id : List ℕ) (a b : LinkView) (count : ℕ) : Type 0 where
   pub due : (k : ℕ) → k < count → IsDue (attributes a.state.store) k
   pub answered : b.answered ≡ a.answered ++ first_checks id (attributes a.state.store) count

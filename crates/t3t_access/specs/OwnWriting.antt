@@ -1,5 +1,6 @@
 -- Writing a Type 3 tag that keeps to its table: what its stores are meanwhile, whatever stops the write.
-use Rattle.std.specs.Prelude.{◌≡◌, ℕ, suc, ◌*◌, ◌<◌, ◌≤◌, ◌⊎◌, List, ◌++◌, Some, length, drop, get_or, Bool, true, false, Result, IfErr, OnOk, Err}
+use Rattle.std.specs.Prelude.{◌≡◌, ℕ, suc, ◌*◌, ◌<◌, ◌≤◌, ◌⊎◌, List, ◌++◌, Some, length, drop, get_or, Bool, true}
+use Rattle.std.specs.Prelude.{false, Result, IfErr, OnOk, Err}
 use Rattle.nfc_base.specs.Signal.{Signal}
 use Rattle.nfc_base.specs.TagLinks.{LinkView, Leads, PassInThree, images}
 use Rattle.nfc_base.specs.declared.tag_link.AskFault.TheVariants as ask
@@ -41,8 +42,8 @@ pub record IsTooSmall (store message : List ℕ) (most : ℕ) : Type 0 where
   pub most' : most ≡ 16 * message_blocks (attributes store)
   pub long : most < length message
 
--- The tag takes the message, and refused an Update: its block is locked, and the store is the old one or says that a write is under
--- way.
+-- The tag takes the message, and refused an Update: its block is locked, and the store is the old one or says that a
+-- write is under way.
 pub record IsRefused (locked : List Bool) (message old s : List ℕ) (status : ℕ) : Type 0 where
   pub status' : status ≡ block_locked
   pub takes : Takes (attributes old) message
@@ -51,8 +52,8 @@ pub record IsRefused (locked : List Bool) (message old s : List ℕ) (status : �
   pub locked' : get_or locked (put_at (attributes old) message number).block false ≡ true
   pub left : (s ≡ old) ⊎ IsBegun message old s
 
--- Why a write ends without the message: by the form of the store, by the message, by a locked block, or by the link. A write
--- takes no memory of its own.
+-- Why a write ends without the message: by the form of the store, by the message, by a locked block, or by the link. A
+-- write takes no memory of its own.
 abbrev pub IsWriteFault3 : List Bool → List ℕ → LinkView → LinkView → T3Fault → Type 0
 IsWriteFault3 locked message a b fault.NotNdef = IsT3Form a.state.store NotNdef × Stays a b
 IsWriteFault3 locked message a b fault.Version = IsT3Form a.state.store Version × Stays a b
@@ -66,14 +67,16 @@ IsWriteFault3 locked message a b fault.Protocol = ByLink a b ask.Protocol
 IsWriteFault3 locked message a b fault.Memory = ByLink a b ask.Memory
 IsWriteFault3 locked message a b fault.Unfinished = ⊥
 
--- The stores of the call are first the old one itself, then such that say that a write is under way, then such that hold the
--- message.
+-- The stores of the call are first the old one itself, then such that say that a write is under way, then such that
+-- hold the message.
 pub record PassesThree (message : List ℕ) (a b : LinkView) : Type 0 where
   pub more : List Signal
   pub leads : Leads a b more
-  pub three : PassInThree (λ s. s ≡ a.state.store) (IsBegun message a.state.store) (IsNew message a.state.store) (images a more)
+  pub three : PassInThree (λ s. s ≡ a.state.store) (IsBegun message a.state.store) (IsNew message a.state.store)
+      (images a more)
 
-pub record IsWrite3 (locked : List Bool) (message : List ℕ) (a b : LinkView) (result : Result (Unit {0}) T3Fault) : Type 0 where
+pub record IsWrite3 (locked : List Bool) (message : List ℕ) (a b : LinkView) (result : Result (Unit {0}) T3Fault)
+    : Type 0 where
   pub passes : PassesThree message a b
   pub ok : OnOk result (Takes (attributes a.state.store) message × IsNew message a.state.store b.state.store)
   pub err : IfErr result (IsWriteFault3 locked message a b)
@@ -83,19 +86,22 @@ pub record IsWrite3 (locked : List Bool) (message : List ℕ) (a b : LinkView) (
 abbrev pub Writes3 : List ℕ → List ℕ → LinkView → LinkView → Result (Unit {0}) T3Fault → Type 0
 Writes3 id message a b result = (locked : List Bool) → IsTag3 id locked a → IsWrite3 locked message a b result
 
--- The next Update is due: the tag takes the message, some are left, and each one before it was of a block that isn't locked.
+-- The next Update is due: the tag takes the message, some are left, and each one before it was of a block that isn't
+-- locked.
 pub record IsPutDue (locked : List Bool) (block message : List ℕ) (n : ℕ) : Type 0 where
   pub takes : Takes block message
   pub some : n < all_puts message
   pub free : (k : ℕ) → k < n → get_or locked (put_at block message k).block false ≡ false
 
--- What was answered is the Check of block 0, and the first so many Updates of those that are due, the one that is refused too. The
--- last one that was asked is the last of these, and ended no link, or the next.
-pub record WritesInOrder (id : List ℕ) (locked : List Bool) (message : List ℕ) (a b : LinkView) (count : ℕ) : Type 0 where
+-- What was answered is the Check of block 0, and the first so many Updates of those that are due, the one that is
+-- refused too. The last one that was asked is the last of these, and ended no link, or the next.
+pub record WritesInOrder (id : List ℕ) (locked : List Bool) (message : List ℕ) (a b : LinkView) (count : ℕ)
+    : Type 0 where
   pub due : (k : ℕ) → k < count → IsPutDue locked (attributes a.state.store) message k
   pub answered : b.answered ≡ a.answered ++ first_asked id (attributes a.state.store) message count
   pub last : ((b.last ≡ last_of a.last (first_asked id (attributes a.state.store) message count)) × (b.over ≡ a.over))
-      ⊎ ((b.last ≡ Some (command_at id (attributes a.state.store) message count)) × IsPutDue locked (attributes a.state.store) message count)
+      ⊎ ((b.last ≡ Some (command_at id (attributes a.state.store) message count))
+      × IsPutDue locked (attributes a.state.store) message count)
 
 -- or the Check wasn't answered
 pub record AsksNoUpdate (id : List ℕ) (a b : LinkView) : Type 0 where
@@ -110,7 +116,8 @@ IsAllAsked (Err fault.Memory) Due = Unit {0}
 IsAllAsked (Err fault.Protocol) Due = Unit {0}
 IsAllAsked r Due = Due → ⊥
 
-pub record AsksUpdates (id : List ℕ) (locked : List Bool) (message : List ℕ) (a b : LinkView) (result : Result (Unit {0}) T3Fault) : Type 0 where
+pub record AsksUpdates (id : List ℕ) (locked : List Bool) (message : List ℕ) (a b : LinkView)
+    (result : Result (Unit {0}) T3Fault) : Type 0 where
   pub count : ℕ
   pub asks : WritesInOrder id locked message a b count
   pub whole : IsAllAsked result (IsPutDue locked (attributes a.state.store) message count)
@@ -124,7 +131,8 @@ IsOfLink (Err fault.Protocol) = Unit {0}
 IsOfLink r = ⊥
 
 abbrev pub AsksWrite : List ℕ → List Bool → List ℕ → LinkView → LinkView → Result (Unit {0}) T3Fault → Type 0
-AsksWrite id locked message a b result = AsksUpdates id locked message a b result ⊎ (AsksNoUpdate id a b × IsOfLink result)
+AsksWrite id locked message a b result = AsksUpdates id locked message a b result
+    ⊎ (AsksNoUpdate id a b × IsOfLink result)
 
 -- where the link leads to such a tag
 abbrev pub AsksOfWrite3 : List ℕ → List ℕ → LinkView → LinkView → Result (Unit {0}) T3Fault → Type 0

@@ -1,5 +1,7 @@
--- Finding Type 3 tags by SENSF_REQ of one time slot (NFC Forum Digital Protocol; JIS X 6319-4). Four tries are this project's own.
-use Rattle.std.specs.Prelude.{◌≡◌, ◌↔◌, ◌⊎◌, ◌≤◌, ℕ, ◌+◌, List, [], ◌∷◌, length, drop, take, get_or, Bool, true, false, not, ◌==◌, ◌&&◌, nat_eq, if◌then◌else◌, Option, Some, None, Result, Ok, Err}
+-- Finding Type 3 tags by SENSF_REQ of one time slot (NFC Forum Digital Protocol; JIS X 6319-4). Four tries are this
+-- project's own.
+use Rattle.std.specs.Prelude.{◌≡◌, ◌↔◌, ◌⊎◌, ◌≤◌, ℕ, ◌+◌, List, [], ◌∷◌, length, drop, take, get_or, Bool, true, false}
+use Rattle.std.specs.Prelude.{not, ◌==◌, ◌&&◌, nat_eq, if◌then◌else◌, Option, Some, None, Result, Ok, Err}
 use Rattle.std.specs.List.{list_any}
 use Rattle.std.specs.Cmp.Lexicographic.{pointwise}
 use Rattle.nfc_base.specs.Signal.{Signal, whole_f}
@@ -12,7 +14,8 @@ use Rattle.nfca_poll.specs.declared.fault.PollFault.{PollFault}
 use Rattle.nfca_poll.specs.declared.fault.PollFault.TheVariants as faults
 use Rattle.nfca_poll.specs.Crowd.{Each}
 use Rattle.nfca_poll.specs.Enquiry.{Enquiry}
-use Rattle.nfca_poll.specs.Inventory.{Inventory, Tries, Told, Presence, tries, asks_for, asking_presence, pick_ended, IsSteady, AnswersBy, HasCausePresence}
+use Rattle.nfca_poll.specs.Inventory.{Inventory, Tries, Told, Presence, tries, asks_for, asking_presence, pick_ended}
+use Rattle.nfca_poll.specs.Inventory.{IsSteady, AnswersBy, HasCausePresence}
 use Rattle.nfca_poll.specs.ByHeard.{silences, has_strange, TellsPresence}
 use Rattle.t3t_access.specs.declared.polling.Fcrowd.{Fcrowd}
 use Rattle.t3t_access.specs.declared.polling.Fcrowd.TheVariants.{Nobody, One, Crowd}
@@ -34,7 +37,13 @@ is_of id g = pointwise nat_eq (nfcid2 g) id
 
 -- which Type 3 tags are there
 abbrev pub all_sensed : Presence Fcrowd
-all_sensed = record { request = sensf_req; shows = is_sensf_res; one = λ g. One (nfcid2 g); nobody = Nobody; crowd = Crowd }
+all_sensed = record {
+  request = sensf_req;
+  shows = is_sensf_res;
+  one = λ g. One (nfcid2 g);
+  nobody = Nobody;
+  crowd = Crowd;
+}
 
 abbrev pub polling_f : Enquiry (Inventory Fcrowd) Fcrowd
 polling_f = asking_presence all_sensed
@@ -52,7 +61,13 @@ pick_step id (Tries n damaged) Silent = Tries (n + 1) damaged
 pick_step id (Told r) h = Told r
 
 abbrev pub picking_f : List ℕ → Enquiry (Inventory (Unit {0})) (Unit {0})
-picking_f id = record { start = Tries 0 false; light = λ s. s; step = pick_step id; next = asks_for sensf_req; ended = pick_ended }
+picking_f id = record {
+  start = Tries 0 false;
+  light = λ s. s;
+  step = pick_step id;
+  next = asks_for sensf_req;
+  ended = pick_ended;
+}
 
 -- what was heard of a turn shows this tag, or may: its SENSF_RES, damage, or a clash
 abbrev pub is_shown : List ℕ → Option Heard → Bool
@@ -94,15 +109,18 @@ pub record TellsPickedF (id : List ℕ) (ts : List Turn) (r : Result (Unit {0}) 
 abbrev pub IsNotOf : {L : Type 0} → Machine L → List ℕ → L → Type 0
 IsNotOf m id l = (g : Signal) → answered_by m l sensf_req None ≡ Some g → is_of id g ≡ false
 
--- Over steady listeners a selection finds nothing only where none is the tag that is sought, or each of its tries met noise; and
--- it meets no bad answer.
-pub record MissesF {L : Type 0} (m : Machine L) (id : List ℕ) (old : Air L) (r : Result (Unit {0}) PollFault) (new : Air L) : Type 0 where
-  pub not_found : r ≡ Err faults.NotFound → Each (IsNotOf m id) old.listeners ⊎ (tries ≤ noise (drop (length old.trace) new.trace))
+-- Over steady listeners a selection finds nothing only where none is the tag that is sought, or each of its tries met
+-- noise; and it meets no bad answer.
+pub record MissesF {L : Type 0} (m : Machine L) (id : List ℕ) (old : Air L) (r : Result (Unit {0}) PollFault)
+    (new : Air L) : Type 0 where
+  pub not_found : r ≡ Err faults.NotFound → Each (IsNotOf m id) old.listeners
+      ⊎ (tries ≤ noise (drop (length old.trace) new.trace))
   pub bad : r ≡ Err faults.BadAnswer → Each (AnswersBy is_sensf_res m sensf_req) old.listeners → ⊥
 
 -- What each call tells in a lit field, over steady listeners.
 abbrev pub TellsWhyF : {L : Type 0} → Machine L → Air L → Result Fcrowd PollFault → Air L → Type 0
-TellsWhyF m old r new = old.lit ≡ true → Each (IsSteady m sensf_req) old.listeners → HasCausePresence all_sensed m old r new
+TellsWhyF m old r new = old.lit ≡ true → Each (IsSteady m sensf_req) old.listeners
+    → HasCausePresence all_sensed m old r new
 
 abbrev pub TellsMissF : {L : Type 0} → Machine L → List ℕ → Air L → Result (Unit {0}) PollFault → Air L → Type 0
 TellsMissF m id old r new = old.lit ≡ true → Each (IsSteady m sensf_req) old.listeners → MissesF m id old r new

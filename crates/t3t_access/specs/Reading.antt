@@ -1,10 +1,12 @@
--- How the message of a Type 3 tag is read: what is asked, what the answers bring, and what is told by them, whatever the tag
--- does (NFC Forum Type 3 Tag).
-use Rattle.std.specs.Prelude.{◌≡◌, ℕ, zero, suc, ◌+◌, ◌-◌, ◌*◌, ◌/◌, ◌<◌, ◌⊎◌, min, nat_lt, ◌==◌, ◌||◌, not, if◌then◌else◌, List, [], ◌∷◌, ◌++◌, length, take, Bool, Result, Ok, Err}
+-- How the message of a Type 3 tag is read: what is asked, what the answers bring, and what is told by them, whatever
+-- the tag does (NFC Forum Type 3 Tag).
+use Rattle.std.specs.Prelude.{◌≡◌, ℕ, zero, suc, ◌+◌, ◌-◌, ◌*◌, ◌/◌, ◌<◌, ◌⊎◌, min, nat_lt, ◌==◌, ◌||◌, not}
+use Rattle.std.specs.Prelude.{if◌then◌else◌, List, [], ◌∷◌, ◌++◌, length, take, Bool, Result, Ok, Err}
 use Rattle.arrayvec.specs.ArrayVec.{ArrayVec}
 use Rattle.nfc_base.specs.Signal.{Signal}
 use Rattle.nfc_base.specs.TagLinks.{LinkView}
-use Rattle.t3t_tag.specs.Attributes.{most_checked, most_updated, message_blocks, message_length, major_version, write_flag, is_summed}
+use Rattle.t3t_tag.specs.Attributes.{most_checked, most_updated, message_blocks, message_length, major_version}
+use Rattle.t3t_tag.specs.Attributes.{write_flag, is_summed}
 use Rattle.t3t_tag.specs.Spelling.{most_elements}
 use Rattle.t3t_tag.specs.Store.{attributes}
 use Rattle.t3t_tag.specs.Form.{T3Form, NotNdef, Version, BadSize, Unfinished, Message, IsSized, IsT3Form, is_writable}
@@ -49,7 +51,8 @@ IsDue block (suc n) = IsSized block × (write_flag block ≡ 0) × (taken_at blo
 abbrev pub Brought : List ℕ → LinkView → List ℕ → ℕ → List ℕ → Type 0
 Brought id a block zero bytes = bytes ≡ []
 Brought id a block (suc n) bytes = (old : List ℕ) × (x : List ℕ) × (bytes ≡ old ++ x) × Brought id a block n old
-    × IsDue block n × (r : Signal) × Says a (first_checks id block n) (check_at id block n) r × Brings id (16 * count_at block n) x r
+    × IsDue block n × (r : Signal) × Says a (first_checks id block n) (check_at id block n) r
+    × Brings id (16 * count_at block n) x r
 
 -- what the first of them brought is the attribute block
 abbrev pub Begins : List ℕ → ℕ → List ℕ → Type 0
@@ -77,7 +80,8 @@ pub record Stops (id : List ℕ) (a b : LinkView) (e : T3Fault) : Type 0 where
   pub brought : Brought id a block number bytes
   pub head : Begins block number bytes
   pub due : IsDue block number
-  pub told : StopsNext (Brings id (16 * count_at block number)) (RefusesCheck id) a b (first_checks id block number) (check_at id block number) e
+  pub told : StopsNext (Brings id (16 * count_at block number)) (RefusesCheck id) a b (first_checks id block number)
+      (check_at id block number) e
 
 -- the reader's own want of memory, behind some of them
 pub record Lacks (id : List ℕ) (a b : LinkView) : Type 0 where
@@ -139,7 +143,8 @@ BlocksTold id a b block bytes (Err e) = FaultTold id a b e
 -- what an attribute block says of itself, as a function
 abbrev pub is_bad_size : List ℕ → Bool
 is_bad_size block =
-    (most_checked block == 0) || (most_updated block == 0) || (message_blocks block == 0) || nat_lt 255 (message_blocks block)
+    (most_checked block == 0) || (most_updated block == 0) || (message_blocks block == 0)
+    || nat_lt 255 (message_blocks block)
     || nat_lt (16 * message_blocks block) (message_length block)
 
 abbrev pub judged : List ℕ → Result (Unit {0}) T3Fault

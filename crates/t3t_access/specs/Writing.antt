@@ -1,6 +1,8 @@
--- How a message of a Type 3 tag is written: what is asked, and what is told by the answers, whatever the tag does (NFC Forum
--- Type 3 Tag).
-use Rattle.std.specs.Prelude.{◌≡◌, ◌≢◌, ℕ, zero, suc, ◌+◌, ◌-◌, ◌*◌, ◌/◌, ◌%◌, ◌<◌, ◌≤◌, ◌⊎◌, nat_lt, nat_eq, ◌==◌, not, if◌then◌else◌, List, [], ◌∷◌, ◌++◌, length, take, drop, replicate, sum, Option, Some, None, Result, Ok, Err}
+-- How a message of a Type 3 tag is written: what is asked, and what is told by the answers, whatever the tag does (NFC
+-- Forum Type 3 Tag).
+use Rattle.std.specs.Prelude.{◌≡◌, ◌≢◌, ℕ, zero, suc, ◌+◌, ◌-◌, ◌*◌, ◌/◌, ◌%◌, ◌<◌, ◌≤◌, ◌⊎◌, nat_lt, nat_eq, ◌==◌, not}
+use Rattle.std.specs.Prelude.{if◌then◌else◌, List, [], ◌∷◌, ◌++◌, length, take, drop, replicate, sum, Option, Some}
+use Rattle.std.specs.Prelude.{None, Result, Ok, Err}
 use Rattle.std.specs.Cmp.Lexicographic.{pointwise}
 use Rattle.nfc_base.specs.Signal.{Signal}
 use Rattle.nfc_base.specs.TagLinks.{LinkView}
@@ -31,7 +33,8 @@ renewed block flag n = unsummed block flag n ++ two_bytes (sum (unsummed block f
 abbrev pub under_way : ℕ
 under_way = 0x0F
 
--- The attribute block that says a write is under way, with the length that it had, and the one that shows the new message.
+-- The attribute block that says a write is under way, with the length that it had, and the one that shows the new
+-- message.
 abbrev pub opened : List ℕ → List ℕ
 opened block = renewed block under_way (message_length block)
 
@@ -57,7 +60,8 @@ pub record Put : Type 0 where
 abbrev pub put_at : List ℕ → List ℕ → ℕ → Put
 put_at block message zero = record { block = 0; content = opened block }
 put_at block message (suc n) =
-    if nat_lt n (blocks_of message) then record { block = suc n; content = content_at message n } else record { block = 0; content = closed block message }
+    if nat_lt n (blocks_of message) then record { block = suc n; content = content_at message n }
+    else record { block = 0; content = closed block message }
 
 -- how many they are
 abbrev pub all_puts : List ℕ → ℕ
@@ -95,7 +99,8 @@ TellsUpdate id block content a b cs (Err e) = StopsUpdate id a b cs (update_of i
 -- the same, as a function
 abbrev pub done_told : List ℕ → Option T3Answer → Result (Unit {0}) T3Fault
 done_told id (Some (Done from)) = if pointwise nat_eq from id then Ok tt else Err fault.Protocol
-done_told id (Some (UpdateRefused from status)) = if pointwise nat_eq from id then Err (fault.Refused status) else Err fault.Protocol
+done_told id (Some (UpdateRefused from status)) = if pointwise nat_eq from id then Err (fault.Refused status)
+    else Err fault.Protocol
 done_told id (Some (Polled from)) = Err fault.Protocol
 done_told id (Some (Content from content)) = Err fault.Protocol
 done_told id (Some (CheckRefused from status)) = Err fault.Protocol
@@ -118,7 +123,8 @@ admitted block message =
 abbrev pub AllDone : List ℕ → LinkView → List ℕ → List ℕ → ℕ → Type 0
 AllDone id a block message zero = Unit {0}
 AllDone id a block message (suc n) =
-    AllDone id a block message n × (r : Signal) × Says a (first_asked id block message n) (command_at id block message n) r × SaysDone id r
+    AllDone id a block message n × (r : Signal) × Says a (first_asked id block message n)
+    (command_at id block message n) r × SaysDone id r
 
 -- Block 0 was read, takes the message, and the first so many Updates are done.
 pub record Writes (id : List ℕ) (a b : LinkView) (block message : List ℕ) (n : ℕ) : Type 0 where

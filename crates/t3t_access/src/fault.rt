@@ -6,8 +6,9 @@ ghost use Rattle.t3t_access.specs.Numbers.{t3_fault_number, of_link};
 use nfc_base::AskFault;
 use thiserror::Error;
 
-/// Why a reading gives no message, or a write ends without it: what the tag's store holds, that the tag refused a command,
-/// with its status, that the link is over, or that the message has no place. The numbers are this project's own.
+/// Why a reading gives no message, or a write ends without it: what the tag's store holds, that the tag refused a
+/// command, with its status, that the link is over, or that the message has no place. The numbers are this project's
+/// own.
 #[derive(Clone, Copy, Debug, PartialEq, Eq, Error)]
 pub enum T3Fault {
     #[error("the sum of the attribute block is wrong")]

@@ -1,9 +1,8 @@
 //! Reads and writes the message of a Type 3 tag over any link (NFC Forum Type 3 Tag).
 //!
-//! `read3` (`reader`) gives the message, `write3` (`writer`) writes one, over a link to a tag that was found by one of the two
-//! calls of `polling`, over a field. `asking` asks the tag for one command, and
-//! tells what its answer says; `attributes` says what the attribute block does; `fault` is why a call ends without its
-//! purpose.
+//! `read3` (`reader`) gives the message, `write3` (`writer`) writes one, over a link to a tag that was found by one of
+//! the two calls of `polling`, over a field. `asking` asks the tag for one command, and tells what its answer says;
+//! `attributes` says what the attribute block does; `fault` is why a call ends without its purpose.
 #![tactic(auto)]
 
 mod asking;

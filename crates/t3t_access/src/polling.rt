@@ -4,7 +4,8 @@ ghost use Rattle.std.specs.Prelude.{◌≡◌, ◌↔◌, Bool, Err, IfSome, IsS
 ghost use Rattle.nfca_poll.specs.declared.fault.PollFault.TheVariants.{FieldLost};
 ghost use Rattle.nfca_poll.specs.Enquiry.{Enquires, LosesByBreak};
 ghost use Rattle.nfca_poll.specs.ByHeard.{turns_since};
-ghost use Rattle.t3t_access.specs.Polling.{sensf_req, is_sensf_res, nfcid2, polling_f, picking_f, judged_res, TellsPolledF, TellsPickedF, TellsWhyF, TellsMissF};
+ghost use Rattle.t3t_access.specs.Polling.{sensf_req, is_sensf_res, nfcid2, polling_f, picking_f, judged_res};
+ghost use Rattle.t3t_access.specs.Polling.{TellsPolledF, TellsPickedF, TellsWhyF, TellsMissF};
 
 use air_core::{Field, Listener};
 use nfc_base::{Frame, Heard, Tech};

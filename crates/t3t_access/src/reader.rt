@@ -6,7 +6,8 @@ ghost use Rattle.t3t_tag.specs.Form.{IsSized};
 ghost use Rattle.t3t_tag.specs.Attributes.{message_length, write_flag};
 ghost use Rattle.t3t_access.specs.Talk.{IsOf};
 ghost use Rattle.t3t_access.specs.Own.{AsksOf3, Reads3};
-ghost use Rattle.t3t_access.specs.Reading.{needed, Reads, ReadTold, StartTold, AttributesTold, BlocksTold, judged, judged_as};
+ghost use Rattle.t3t_access.specs.Reading.{needed, Reads, ReadTold, StartTold, AttributesTold, BlocksTold, judged};
+ghost use Rattle.t3t_access.specs.Reading.{judged_as};
 
 use crate::asking::check;
 use crate::attributes::{judge, message_length};
@@ -163,10 +164,11 @@ pub fn read3<T: TagLink>(alloc: Global, link: &mut T, id: [u8; 8]) -> Result<Fou
     requires of { IsOf id (T.seen link.old) }
     // whatever the tag does: what it tells stands in the tag's answers, and each fault in them, or in the link
     ensures told { ReadTold id (T.seen link.old) (T.seen link.new) result }
-    // where the tag keeps to its table: its store stays, in each image, the message is the one that it holds, each fault has
-    // its cause, and where all passes, or each wait is answered, the link is none
+    // where the tag keeps to its table: its store stays, in each image, the message is the one that it holds, each
+    // fault has its cause, and where all passes, or each wait is answered, the link is none
     ensures law { Reads3 id (T.seen link.old) (T.seen link.new) result }
-    // and what was answered is the first of the one list that is asked of such a store, all of it where it tells what is there
+    // and what was answered is the first of the one list that is asked of such a store, all of it where it tells what
+    // is there
     ensures asked { AsksOf3 id (T.seen link.old) (T.seen link.new) result }
     ensures ready { T.ready link.new }
     ensures same { T.lenders link.new ≡ T.lenders link.old }

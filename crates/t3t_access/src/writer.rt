@@ -4,7 +4,8 @@ ghost use Rattle.std.specs.Prelude.{◌≡◌, suc, ◌+◌, ◌*◌, ◌<◌, �
 ghost use Rattle.nfc_base.specs.TagLinks.{LinkView};
 ghost use Rattle.t3t_access.specs.Talk.{IsOf};
 ghost use Rattle.t3t_access.specs.OwnWriting.{AsksOfWrite3, Writes3};
-ghost use Rattle.t3t_access.specs.Writing.{admitted, renewed, content_at, blocks_of, all_puts, Writes, Takes, PartTold, WriteTold};
+ghost use Rattle.t3t_access.specs.Writing.{admitted, renewed, content_at, blocks_of, all_puts, Writes, Takes, PartTold};
+ghost use Rattle.t3t_access.specs.Writing.{WriteTold};
 
 use crate::asking::update;
 use crate::attributes::message_length;
@@ -220,11 +221,11 @@ pub fn write3<T: TagLink>(
     requires of { IsOf id (T.seen link.old) }
     // whatever the tag does: which Updates are done stands in the tag's answers, and each fault in them, or in the link
     ensures told { WriteTold id (T.seen link.old) (T.seen link.new) message.now result }
-    // where the tag keeps to its table, at every exit: its stores are first the old one, then such that say that a write
-    // is under way, then such that hold the message, and other blocks stay; each fault has its cause
+    // where the tag keeps to its table, at every exit: its stores are first the old one, then such that say that a
+    // write is under way, then such that hold the message, and other blocks stay; each fault has its cause
     ensures law { Writes3 id message.now (T.seen link.old) (T.seen link.new) result }
-    // and what was answered is the first of the one list that the store, the locked blocks and the message fix, all of it
-    // where it tells that the message is written, or why the tag doesn't take it
+    // and what was answered is the first of the one list that the store, the locked blocks and the message fix, all of
+    // it where it tells that the message is written, or why the tag doesn't take it
     ensures asked { AsksOfWrite3 id message.now (T.seen link.old) (T.seen link.new) result }
     ensures ready { T.ready link.new }
     ensures same { T.lenders link.new ≡ T.lenders link.old }

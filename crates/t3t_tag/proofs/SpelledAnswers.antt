@@ -1,5 +1,6 @@
 -- What is read from a frame is exactly the answer that it spells.
-use Rattle.std.proofs.Common.{◌≡◌, ℕ, suc, ◌*◌, ◌/◌, ◌%◌, ◌≤◌, List, [], ◌∷◌, ◌++◌, length, replicate, true, nat_eq, nat_le, ◌==◌, ◌&&◌, if◌then◌else◌, Option, Some, None, ◌↔◌, sym, ◌∙◌, ap, subst, arith}
+use Rattle.std.proofs.Common.{◌≡◌, ℕ, suc, ◌*◌, ◌/◌, ◌%◌, ◌≤◌, List, [], ◌∷◌, ◌++◌, length, replicate, true, nat_eq, nat_le, ◌==◌, ◌&&◌, if◌then◌else◌, Option, Some, None, ◌↔◌, sym, ◌∙◌, ap, subst}
+use Rattle.std.proofs.Common.{arith}
 use Rattle.nfc_base.specs.Signal.{Signal}
 use Rattle.std.specs.Cmp.Lexicographic.{pointwise}
 use Rattle.t3t_tag.specs.declared.answer.T3Answer.{T3Answer}
@@ -7,7 +8,8 @@ use Rattle.t3t_tag.specs.declared.answer.T3Answer.TheVariants.{Polled, Content, 
 use Rattle.t3t_tag.specs.Store.{block_size, id_size}
 use Rattle.t3t_tag.specs.Spelling.{polled_code, checked_code, updated_code, most_elements, two_bytes, pair, framed, done, pad_size, answer_bytes, IsContent, IsT3Answer, is_whole_f, T3AnswerSpelling}
 use Rattle.t3t_tag.specs.Reading.{is_element_count, is_content, read_polled, read_checked, read_updated, behind_id, read_reply, answer_of, spelled_answer}
-use Rattle.t3t_tag.proofs.Bytes.{equal_of, is_equal, other_of, is_other, same_number, whole_frame, at_most, left_of, right_of, both_of, equal_bytes, by_if, AreBytes, two_bytes_of, pair_of, behind_told, behind_reads}
+use Rattle.t3t_tag.proofs.Bytes.{equal_of, is_equal, other_of, is_other, same_number, whole_frame, at_most, left_of, right_of, both_of, equal_bytes, by_if, AreBytes, two_bytes_of, pair_of}
+use Rattle.t3t_tag.proofs.Bytes.{behind_told, behind_reads}
 use Rattle.t3t_tag.proofs.Elements.{count_in_range}
 
 -- these bytes spell it

@@ -4,7 +4,8 @@ use Rattle.nfc_base.specs.Signal.{Signal}
 use Rattle.t3t_tag.specs.declared.command.T3Command.{T3Command}
 use Rattle.t3t_tag.specs.declared.command.T3Command.TheVariants.{Poll, Check, Update}
 use Rattle.t3t_tag.specs.Store.{block_size, id_size}
-use Rattle.t3t_tag.specs.Spelling.{poll_code, check_code, update_code, read_service, write_service, element_code, two_bytes, pair, framed, elements, asked_of, command_bytes, IsT3Command, is_whole_f, T3Spelling}
+use Rattle.t3t_tag.specs.Spelling.{poll_code, check_code, update_code, read_service, write_service, element_code, two_bytes, pair, framed, elements, asked_of, command_bytes, IsT3Command, is_whole_f}
+use Rattle.t3t_tag.specs.Spelling.{T3Spelling}
 use Rattle.t3t_tag.specs.Reading.{blocks_asked, read_poll, check_named, read_check, read_update, behind_id, read_request, command_of, spelled_command}
 use Rattle.t3t_tag.proofs.Bytes.{equal_of, is_equal, same_number, whole_frame, left_of, right_of, by_if, AreBytes, two_bytes_of, pair_of, behind_told, behind_reads}
 use Rattle.t3t_tag.proofs.Elements.{AreAsked, asked_told, asked_read}

@@ -1,13 +1,16 @@
 -- What the steps of a tag give its reader, and what they leave.
-use Rattle.std.proofs.Common.{◌≡◌, ℕ, suc, ◌*◌, ◌/◌, ◌<◌, ◌≤◌, List, [], ◌∷◌, ◌++◌, length, drop, take, Bool, ◌==◌, true, false, not, nat_eq, nat_le, if◌then◌else◌, Some, None, IfSome, refl, sym, ◌∙◌, ap, subst, arith}
+use Rattle.std.proofs.Common.{◌≡◌, ℕ, suc, ◌*◌, ◌/◌, ◌<◌, ◌≤◌, List, [], ◌∷◌, ◌++◌, length, drop, take, Bool, ◌==◌, true, false, not, nat_eq, nat_le, if◌then◌else◌, Some, None, IfSome, refl, sym, ◌∙◌}
+use Rattle.std.proofs.Common.{ap, subst, arith}
 use Rattle.std.specs.Cmp.Lexicographic.{pointwise}
 use Rattle.nfc_base.specs.Signal.{Signal, whole_f}
 use Rattle.t3t_tag.specs.declared.answer.T3Answer.{T3Answer}
 use Rattle.t3t_tag.specs.declared.answer.T3Answer.TheVariants.{Polled, Content, CheckRefused, Done, UpdateRefused}
 use Rattle.t3t_tag.specs.declared.command.T3Command.TheVariants.{Check, Update}
 use Rattle.t3t_tag.specs.Store.{T3State, IsT3State, IsSameTag, block_size, id_size, block_count, is_locked, rewritten}
-use Rattle.t3t_tag.specs.Spelling.{poll_code, check_code, update_code, read_service, write_service, most_elements, framed, elements, asked_of, command_frame, IsT3Answer, IsContent, T3AnswerSpelling, answer_frame}
-use Rattle.t3t_tag.specs.Step.{T3Turn, silent, tells, no_block, block_locked, answers, blocks_answer, checked_answer, check_answer, written_turn, update_turn, names, request_turn, poll_turn, IsForAnother, t3_turn, t3_answer, t3_after, content_of, sent}
+use Rattle.t3t_tag.specs.Spelling.{poll_code, check_code, update_code, read_service, write_service, most_elements, framed, elements, asked_of, command_frame, IsT3Answer, IsContent, T3AnswerSpelling}
+use Rattle.t3t_tag.specs.Spelling.{answer_frame}
+use Rattle.t3t_tag.specs.Step.{T3Turn, silent, tells, no_block, block_locked, answers, blocks_answer, checked_answer, check_answer, written_turn, update_turn, names, request_turn, poll_turn}
+use Rattle.t3t_tag.specs.Step.{IsForAnother, t3_turn, t3_answer, t3_after, content_of, sent}
 use Rattle.t3t_tag.proofs.Bytes.{is_equal, is_other, same_number, equal_bytes, bytes_self, AreBytes, front_of, rest_of}
 use Rattle.t3t_tag.proofs.Elements.{length_elements, asked_read}
 use Rattle.t3t_tag.proofs.Stores.{length_with_block, with_block_again, length_content}
@@ -63,7 +66,8 @@ check_turns t size blocks least most =
     framed_turn t (check_code ∷ (t.id ++ rest))
     ∙ ap (λ v. if not v then silent t else answers t (check_answer t (drop id_size (t.id ++ rest)))) heard.0
     ∙ ap (λ x. answers t (check_answer t x)) heard.1
-    ∙ ap (λ v. answers t (if v then Some (checked_answer t read_service (length blocks) (elements blocks)) else None)) (is_equal (length (elements blocks)) (2 * length blocks) (length_elements blocks))
+    ∙ ap (λ v. answers t (if v then Some (checked_answer t read_service (length blocks) (elements blocks)) else None))
+    (is_equal (length (elements blocks)) (2 * length blocks) (length_elements blocks))
     ∙ ap (λ named. tells t (blocks_answer t named)) (asked_read blocks least most)
 
 -- an Update of one block with the service that writes

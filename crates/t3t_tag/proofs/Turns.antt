@@ -1,5 +1,6 @@
 -- What holds of each kind of turn holds of the turn of every frame.
-use Rattle.std.proofs.Common.{◌≡◌, ◌≢◌, ℕ, suc, ◌*◌, ◌<◌, ◌≤◌, List, [], ◌∷◌, ◌++◌, length, take, drop, Bool, true, false, not, nat_eq, nat_le, ◌==◌, ◌&&◌, ◌||◌, if◌then◌else◌, Option, Some, None, refl, sym, ◌∙◌, ap, arith}
+use Rattle.std.proofs.Common.{◌≡◌, ◌≢◌, ℕ, suc, ◌*◌, ◌<◌, ◌≤◌, List, [], ◌∷◌, ◌++◌, length, take, drop, Bool, true, false, not, nat_eq, nat_le, ◌==◌, ◌&&◌, ◌||◌, if◌then◌else◌, Option, Some, None}
+use Rattle.std.proofs.Common.{refl, sym, ◌∙◌, ap, arith}
 use Rattle.std.specs.Cmp.Lexicographic.{pointwise}
 use Rattle.std.proofs.lemmas.List.{take-append-drop}
 use Rattle.nfc_base.specs.Signal.{Signal, whole_f}
@@ -9,7 +10,8 @@ use Rattle.t3t_tag.specs.declared.command.T3Command.TheVariants.{Update}
 use Rattle.t3t_tag.specs.Store.{T3State, block_size, id_size, block_count, is_locked, rewritten}
 use Rattle.t3t_tag.specs.Spelling.{poll_code, check_code, update_code, write_service, element_code, most_elements, pair, framed, command_frame, is_whole_f, done}
 use Rattle.t3t_tag.specs.Reading.{blocks_asked}
-use Rattle.t3t_tag.specs.Step.{T3Turn, silent, tells, not_taken, no_block, block_locked, ndef_poll, any_poll, poll_turn, are_there, content_of, is_check_service, answers, blocks_answer, checked_answer, check_answer, written_turn, update_turn, names, request_turn, bytes_turn, t3_turn}
+use Rattle.t3t_tag.specs.Step.{T3Turn, silent, tells, not_taken, no_block, block_locked, ndef_poll, any_poll, poll_turn, are_there, content_of, is_check_service, answers, blocks_answer}
+use Rattle.t3t_tag.specs.Step.{checked_answer, check_answer, written_turn, update_turn, names, request_turn, bytes_turn, t3_turn}
 use Rattle.t3t_tag.proofs.Bytes.{equal_of, left_of, right_of, equal_bytes, whole_frame, AreBytes, bytes_behind}
 use Rattle.t3t_tag.proofs.Elements.{AreAsked, asked_told}
 use Rattle.t3t_tag.proofs.SpelledCommands.{update_whole}

@@ -1,6 +1,7 @@
 -- The form of a Type 3 tag's store (NFC Forum Type 3 Tag): what a reader finds on it. The first that applies counts.
 use Rattle.std.specs.Prelude.{◌≡◌, ◌≢◌, ◌⊎◌, ℕ, ◌*◌, ◌<◌, List, take, drop, Bool, true, false, ◌==◌}
-use Rattle.t3t_tag.specs.Attributes.{major_version, most_checked, most_updated, message_blocks, write_flag, access_flag, message_length, is_summed}
+use Rattle.t3t_tag.specs.Attributes.{major_version, most_checked, most_updated, message_blocks, write_flag, access_flag}
+use Rattle.t3t_tag.specs.Attributes.{message_length, is_summed}
 use Rattle.t3t_tag.specs.Store.{block_size, most_message_blocks, attributes}
 
 pub data T3Form : Type 0 where

@@ -1,5 +1,6 @@
 -- What a frame is read as, as a function: the command or the answer that it spells, where it spells one.
-use Rattle.std.specs.Prelude.{ℕ, ◌*◌, List, [], ◌∷◌, length, take, drop, replicate, Bool, ◌==◌, ◌&&◌, nat_eq, nat_le, if◌then◌else◌, Option, Some, None}
+use Rattle.std.specs.Prelude.{ℕ, ◌*◌, List, [], ◌∷◌, length, take, drop, replicate, Bool, ◌==◌, ◌&&◌, nat_eq, nat_le}
+use Rattle.std.specs.Prelude.{if◌then◌else◌, Option, Some, None}
 use Rattle.std.specs.Cmp.Lexicographic.{pointwise}
 use Rattle.nfc_base.specs.Signal.{Signal}
 use Rattle.arrayvec.specs.ArrayVec.{ArrayVec}
@@ -8,7 +9,9 @@ use Rattle.t3t_tag.specs.declared.command.T3Command.TheVariants.{Poll, Check, Up
 use Rattle.t3t_tag.specs.declared.answer.T3Answer.{T3Answer}
 use Rattle.t3t_tag.specs.declared.answer.T3Answer.TheVariants.{Polled, Content, Done, CheckRefused, UpdateRefused}
 use Rattle.t3t_tag.specs.Store.{block_size, id_size}
-use Rattle.t3t_tag.specs.Spelling.{poll_code, polled_code, check_code, checked_code, update_code, updated_code, read_service, write_service, element_code, most_elements, pair, done, pad_size, is_whole_f}
+use Rattle.t3t_tag.specs.Spelling.{poll_code, polled_code, check_code, checked_code, update_code, updated_code}
+use Rattle.t3t_tag.specs.Spelling.{read_service, write_service, element_code, most_elements, pair, done, pad_size}
+use Rattle.t3t_tag.specs.Spelling.{is_whole_f}
 
 -- one block more in front, where there are some
 abbrev pub with_block_number : ℕ → Option (List ℕ) → Option (List ℕ)
@@ -46,7 +49,8 @@ read_check id _ = None
 
 abbrev pub read_update : List ℕ → List ℕ → Option T3Command
 read_update id (services ∷ high ∷ low ∷ count ∷ code ∷ block ∷ content) =
-    if (services == 1) && (pair high low == write_service) && (count == 1) && (code == element_code) && (length content == block_size)
+    if (services == 1) && (pair high low == write_service) && (count == 1) && (code == element_code)
+    && (length content == block_size)
     then Some (Update id block content) else None
 read_update id _ = None
 
@@ -84,7 +88,8 @@ read_checked id (high ∷ low ∷ count ∷ content) =
 read_checked id _ = None
 
 abbrev pub read_updated : List ℕ → List ℕ → Option T3Answer
-read_updated id (high ∷ low ∷ []) = if pair high low == done then Some (Done id) else Some (UpdateRefused id (pair high low))
+read_updated id (high ∷ low ∷ []) = if pair high low == done then Some (Done id)
+    else Some (UpdateRefused id (pair high low))
 read_updated id _ = None
 
 abbrev pub read_reply : List ℕ → Option T3Answer

@@ -1,5 +1,6 @@
 -- How the commands of a reader and the answers of a tag stand in frames (NFC Forum Type 3 Tag; JIS X 6319-4).
-use Rattle.std.specs.Prelude.{◌≡◌, ◌≢◌, ℕ, suc, ◌+◌, ◌*◌, ◌/◌, ◌%◌, ◌≤◌, List, [], ◌∷◌, ◌++◌, length, replicate, Bool, true, false, ◌==◌, ◌&&◌}
+use Rattle.std.specs.Prelude.{◌≡◌, ◌≢◌, ℕ, suc, ◌+◌, ◌*◌, ◌/◌, ◌%◌, ◌≤◌, List, [], ◌∷◌, ◌++◌, length, replicate, Bool}
+use Rattle.std.specs.Prelude.{true, false, ◌==◌, ◌&&◌}
 use Rattle.nfc_base.specs.declared.frame.Tech.{Tech}
 use Rattle.nfc_base.specs.declared.frame.Tech.TheVariants.{A, V, F}
 use Rattle.nfc_base.specs.Signal.{Signal, whole_f}
@@ -67,8 +68,10 @@ asked_of service count = 1 ∷ service / 256 ∷ service % 256 ∷ count ∷ []
 -- A Check is sent with the service that reads, an Update with the one that writes, of one block.
 abbrev pub command_bytes : T3Command → List ℕ
 command_bytes (Poll system request slots) = framed (poll_code ∷ (two_bytes system ++ request ∷ slots ∷ []))
-command_bytes (Check id blocks) = framed (check_code ∷ (id ++ (asked_of read_service (length blocks.items) ++ elements blocks.items)))
-command_bytes (Update id block content) = framed (update_code ∷ (id ++ (asked_of write_service 1 ++ (elements (block ∷ []) ++ content))))
+command_bytes (Check id blocks) =
+    framed (check_code ∷ (id ++ (asked_of read_service (length blocks.items) ++ elements blocks.items)))
+command_bytes (Update id block content) =
+    framed (update_code ∷ (id ++ (asked_of write_service 1 ++ (elements (block ∷ []) ++ content))))
 
 abbrev pub command_frame : T3Command → Signal
 command_frame c = whole_f (command_bytes c)
@@ -85,7 +88,8 @@ is_whole_f f = is_nfc_f f.tech && (f.tail == 0)
 -- which commands are in range
 abbrev pub IsT3Command : T3Command → Type 0
 IsT3Command (Poll system request slots) = Unit {0}
-IsT3Command (Check id blocks) = (length id ≡ id_size) × (1 ≤ length blocks.items) × (length blocks.items ≤ most_elements)
+IsT3Command (Check id blocks) = (length id ≡ id_size) × (1 ≤ length blocks.items)
+    × (length blocks.items ≤ most_elements)
 IsT3Command (Update id block content) = (length id ≡ id_size) × (length content ≡ block_size)
 
 -- the frame spells the command
@@ -103,7 +107,8 @@ pad_size = 8
 
 abbrev pub answer_bytes : T3Answer → List ℕ
 answer_bytes (Polled id) = framed (polled_code ∷ (id ++ replicate pad_size 0))
-answer_bytes (Content id content) = framed (checked_code ∷ (id ++ (two_bytes done ++ length content.items / block_size ∷ content.items)))
+answer_bytes (Content id content) =
+    framed (checked_code ∷ (id ++ (two_bytes done ++ length content.items / block_size ∷ content.items)))
 answer_bytes (Done id) = framed (updated_code ∷ (id ++ two_bytes done))
 answer_bytes (CheckRefused id status) = framed (checked_code ∷ (id ++ two_bytes status))
 answer_bytes (UpdateRefused id status) = framed (updated_code ∷ (id ++ two_bytes status))

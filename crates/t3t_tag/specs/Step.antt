@@ -1,6 +1,7 @@
 -- The step of a Type 3 tag on a frame (NFC Forum Type 3 Tag; JIS X 6319-4). Which status a tag tells for
 -- which condition, that block elements have two bytes and that one Update changes one block is this project's own.
-use Rattle.std.specs.Prelude.{◌≡◌, ◌≢◌, ℕ, ◌*◌, List, [], ◌∷◌, length, take, drop, ◌++◌, Bool, true, false, ◌==◌, ◌&&◌, ◌||◌, not, nat_eq, nat_le, nat_lt, if◌then◌else◌, Option, Some, None}
+use Rattle.std.specs.Prelude.{◌≡◌, ◌≢◌, ℕ, ◌*◌, List, [], ◌∷◌, length, take, drop, ◌++◌, Bool, true, false, ◌==◌, ◌&&◌}
+use Rattle.std.specs.Prelude.{◌||◌, not, nat_eq, nat_le, nat_lt, if◌then◌else◌, Option, Some, None}
 use Rattle.std.specs.Cmp.Lexicographic.{pointwise}
 use Rattle.nfc_base.specs.Signal.{Signal, whole_f}
 use Rattle.nfc_base.specs.Blocks.{block_of}
@@ -8,7 +9,8 @@ use Rattle.t3t_tag.specs.declared.answer.T3Answer.{T3Answer}
 use Rattle.t3t_tag.specs.declared.answer.T3Answer.TheVariants.{Polled, Content, Done, CheckRefused, UpdateRefused}
 use Rattle.t3t_tag.specs.declared.command.T3Command.TheVariants.{Update}
 use Rattle.t3t_tag.specs.Store.{T3State, IsOverlong, block_size, id_size, block_count, is_locked, rewritten}
-use Rattle.t3t_tag.specs.Spelling.{poll_code, check_code, update_code, read_service, write_service, element_code, pair, framed, command_frame, answer_frame, is_whole_f}
+use Rattle.t3t_tag.specs.Spelling.{poll_code, check_code, update_code, read_service, write_service, element_code, pair}
+use Rattle.t3t_tag.specs.Spelling.{framed, command_frame, answer_frame, is_whole_f}
 use Rattle.t3t_tag.specs.Reading.{blocks_asked}
 
 -- the statuses: of a service or elements that the tag doesn't take, of a block that isn't there, of a locked block
@@ -42,7 +44,8 @@ abbrev pub any_poll : List ℕ
 any_poll = 0xFF ∷ 0xFF ∷ 0 ∷ 0 ∷ []
 
 abbrev pub poll_turn : T3State → List ℕ → T3Turn
-poll_turn t rest = if pointwise nat_eq rest ndef_poll || pointwise nat_eq rest any_poll then tells t (Polled t.id) else silent t
+poll_turn t rest = if pointwise nat_eq rest ndef_poll || pointwise nat_eq rest any_poll then tells t (Polled t.id)
+    else silent t
 
 -- each of some blocks is there
 abbrev pub are_there : ℕ → List ℕ → Bool
@@ -70,7 +73,8 @@ blocks_answer t (Some blocks) =
 
 -- to 1 to 15 elements with a service that reads
 abbrev pub checked_answer : T3State → ℕ → ℕ → List ℕ → T3Answer
-checked_answer t service count rest = blocks_answer t (if is_check_service service then blocks_asked count rest else None)
+checked_answer t service count rest = blocks_answer t
+    (if is_check_service service then blocks_asked count rest else None)
 
 -- to a Check behind the identifier: one service, the number of elements, and as many of two bytes
 abbrev pub check_answer : T3State → List ℕ → Option T3Answer

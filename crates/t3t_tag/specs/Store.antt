@@ -1,5 +1,6 @@
 -- What a Type 3 tag holds (NFC Forum Type 3 Tag).
-use Rattle.std.specs.Prelude.{◌≡◌, ℕ, ◌/◌, ◌%◌, ◌<◌, ◌≤◌, List, length, get_or, slice_index, set, replicate, Bool, true, false}
+use Rattle.std.specs.Prelude.{◌≡◌, ℕ, ◌/◌, ◌%◌, ◌<◌, ◌≤◌, List, length, get_or, slice_index, set, replicate, Bool, true}
+use Rattle.std.specs.Prelude.{false}
 use Rattle.nfc_base.specs.Blocks.{with_block, block_of}
 use Rattle.t3t_tag.specs.Attributes.{is_summed, message_blocks}
 use Rattle.t3t_tag.specs.declared.tag.StoreFault.{StoreFault}

@@ -2,7 +2,8 @@
 
 ghost use Rattle.std.specs.Prelude.{◌≡◌, ◌↔◌, ◌≤◌, ◌∷◌, ◌++◌, length, Some, IsNone};
 ghost use Rattle.t3t_tag.specs.Spelling.{framed, answer_bytes, answer_frame, IsT3Answer, T3AnswerSpelling};
-ghost use Rattle.t3t_tag.specs.Reading.{read_polled, read_checked, read_updated, read_reply, answer_of, spelled_answer, is_content};
+ghost use Rattle.t3t_tag.specs.Reading.{read_polled, read_checked, read_updated, read_reply, answer_of, spelled_answer};
+ghost use Rattle.t3t_tag.specs.Reading.{is_content};
 ghost use Rattle.t3t_tag.specs.declared.answer.T3Answer.{T3Answer};
 
 use crate::command::framed;
@@ -24,9 +25,9 @@ const BLOCK: usize = 16;
 
 const MOST_BLOCKS: u8 = 15;
 
-/// An answer (NFC Forum Type 3 Tag; JIS X 6319-4), with the identifier of the tag that gives it: to a poll, to a Check the
-/// content of 1 to 15 blocks, to an Update that it is done, and to both the status by which the tag refuses it, which
-/// isn't 0. What a status stands for is this project's own.
+/// An answer (NFC Forum Type 3 Tag; JIS X 6319-4), with the identifier of the tag that gives it: to a poll, to a Check
+/// the content of 1 to 15 blocks, to an Update that it is done, and to both the status by which the tag refuses it,
+/// which isn't 0. What a status stands for is this project's own.
 #[derive(Clone, Debug, Drop, PartialEq, Eq)]
 pub enum T3Answer {
     Polled {

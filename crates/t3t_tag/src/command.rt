@@ -1,8 +1,10 @@
 //! What a reader asks of a Type 3 tag.
 
 ghost use Rattle.std.specs.Prelude.{◌≡◌, ◌↔◌, ◌≤◌, ◌*◌, ◌∷◌, ◌++◌, length, Some, IsNone};
-ghost use Rattle.t3t_tag.specs.Spelling.{asked_of, framed, elements, command_bytes, command_frame, IsT3Command, T3Spelling};
-ghost use Rattle.t3t_tag.specs.Reading.{blocks_asked, behind_id, read_check, read_update, read_request, command_of, spelled_command, found_blocks};
+ghost use Rattle.t3t_tag.specs.Spelling.{asked_of, framed, elements, command_bytes, command_frame, IsT3Command};
+ghost use Rattle.t3t_tag.specs.Spelling.{T3Spelling};
+ghost use Rattle.t3t_tag.specs.Reading.{blocks_asked, behind_id, read_check, read_update, read_request, command_of};
+ghost use Rattle.t3t_tag.specs.Reading.{spelled_command, found_blocks};
 ghost use Rattle.t3t_tag.specs.declared.command.T3Command.{T3Command};
 
 use arrayvec::ArrayVec;
@@ -29,7 +31,8 @@ const MOST_ELEMENTS: u8 = 15;
 /// A command (NFC Forum Type 3 Tag; JIS X 6319-4). A poll is for every tag of a system code, the others for one tag.
 #[derive(Clone, Debug, Drop, PartialEq, Eq)]
 pub enum T3Command {
-    /// Which tags are there? Behind the system code stand what more is asked, and how many slots there are to answer in.
+    /// Which tags are there? Behind the system code stand what more is asked, and how many slots there are to answer
+    /// in.
     Poll {
         system: u16,
         request: u8,

@@ -3,8 +3,11 @@
 ghost use Rattle.std.specs.Prelude.{◌≡◌, ◌<◌, ◌≤◌, ◌↔◌, ◌*◌, length, nat_lt, IfOk, IfSome, IsNone, IsOk, Some, true};
 ghost use Rattle.t3t_tag.specs.Spelling.{T3AnswerSpelling};
 ghost use Rattle.t3t_tag.specs.declared.answer.T3Answer.{T3Answer};
-ghost use Rattle.t3t_tag.specs.Store.{IsT3Store, IsT3State, IsSameTag, block_count, unlocked, locked_too, store_fault_number};
-ghost use Rattle.t3t_tag.specs.Step.{are_there, content_of, poll_turn, checked_answer, check_answer, update_turn, written_turn, request_turn, bytes_turn, t3_turn, t3_answer, t3_after, IsForAnother, SpoilsStore};
+ghost use Rattle.t3t_tag.specs.Store.{IsT3Store, IsT3State, IsSameTag, block_count, unlocked, locked_too};
+ghost use Rattle.t3t_tag.specs.Store.{store_fault_number};
+ghost use Rattle.t3t_tag.specs.Step.{are_there, content_of, poll_turn, checked_answer, check_answer, update_turn};
+ghost use Rattle.t3t_tag.specs.Step.{written_turn, request_turn, bytes_turn, t3_turn, t3_answer, t3_after};
+ghost use Rattle.t3t_tag.specs.Step.{IsForAnother, SpoilsStore};
 
 use crate::answer::T3Answer;
 use crate::attributes::{is_summed, message_blocks};

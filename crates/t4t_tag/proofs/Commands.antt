@@ -89,7 +89,8 @@ fits : (offset size count : ℕ) → 1 ≤ count → offset + count ≤ size →
 fits offset size count some within small = grind (arith, some, within, small)
 
 -- an update inside the NDEF file, of no more bytes than the container allows, changes the file as a whole
-pub update_ndef : (t : T4State) → IsT4State t → t.current ≡ Ndef → write_access t.container ≡ everyone → (offset : ℕ) (content : List ℕ) → 1 ≤ length content → length content ≤ most_written t.container → offset + length content ≤ length t.file
+pub update_ndef : (t : T4State) → IsT4State t → t.current ≡ Ndef → write_access t.container ≡ everyone → (offset : ℕ) (content : List ℕ) → 1 ≤ length content
+    → length content ≤ most_written t.container → offset + length content ≤ length t.file
     → t4_step t (command_bytes (UpdateBinary offset (record { items = content }))) ≡ writes t offset content
 update_ndef t is here free offset content some most within =
     let beyond : Bool = nat_le offset_end offset || nat_lt (length t.file) (offset + length content) in

@@ -1,11 +1,13 @@
 -- What holds of each kind of turn holds of the turn of every command.
-use Rattle.std.proofs.Common.{◌≡◌, ℕ, ◌+◌, ◌*◌, ◌≤◌, List, [], ◌∷◌, ◌++◌, length, take, drop, slice_index, Bool, true, false, not, nat_eq, nat_le, nat_lt, ◌==◌, ◌&&◌, ◌||◌, if◌then◌else◌, refl, sym, arith}
+use Rattle.std.proofs.Common.{◌≡◌, ℕ, ◌+◌, ◌*◌, ◌≤◌, List, [], ◌∷◌, ◌++◌, length, take, drop, slice_index, Bool, true, false, not, nat_eq, nat_le, nat_lt, ◌==◌, ◌&&◌, ◌||◌, if◌then◌else◌, refl, sym}
+use Rattle.std.proofs.Common.{arith}
 use Rattle.std.specs.Cmp.Lexicographic.{pointwise}
 use Rattle.t4t_tag.specs.declared.current.CurrentFile.{CurrentFile}
 use Rattle.t4t_tag.specs.declared.current.CurrentFile.TheVariants.{NoFile, Container, Ndef}
 use Rattle.t4t_tag.specs.Store.{T4State, most_read, most_written, file_id, read_access, write_access, everyone, container_id}
 use Rattle.t4t_tag.specs.Spelling.{class_byte, select_code, read_code, update_code, application_name, offset_end}
-use Rattle.t4t_tag.specs.Step.{T4Turn, done, wrong_length, wrong_class, wrong_instruction, not_found, wrong_parameters, not_allowed, tells, opens, picks, writes, select_application, select_known, select_file, is_named, select_turn, read_bytes, read_file, asked_count, read_turn, update_file, update_turn, t4_step}
+use Rattle.t4t_tag.specs.Step.{T4Turn, done, wrong_length, wrong_class, wrong_instruction, not_found, wrong_parameters, not_allowed, tells, opens, picks, writes, select_application, select_known}
+use Rattle.t4t_tag.specs.Step.{select_file, is_named, select_turn, read_bytes, read_file, asked_count, read_turn, update_file, update_turn, t4_step}
 
 -- the answer to a read that is obeyed
 abbrev pub content_of : List ℕ → ℕ → ℕ → List ℕ

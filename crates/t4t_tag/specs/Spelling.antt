@@ -1,7 +1,8 @@
 -- How the commands of a reader stand in bytes (NFC Forum Type 4 Tag; ISO/IEC 7816-4).
 use Rattle.std.specs.Prelude.{ℕ, ◌/◌, ◌%◌, ◌<◌, ◌≤◌, List, [], ◌∷◌, ◌++◌, length}
 use Rattle.t4t_tag.specs.declared.command.T4Command.{T4Command}
-use Rattle.t4t_tag.specs.declared.command.T4Command.TheVariants.{SelectApplication, SelectFile, ReadBinary, UpdateBinary}
+use Rattle.t4t_tag.specs.declared.command.T4Command.TheVariants.{SelectApplication, SelectFile, ReadBinary}
+use Rattle.t4t_tag.specs.declared.command.T4Command.TheVariants.{UpdateBinary}
 
 -- the class byte of every command, and the instructions SELECT, READ BINARY and UPDATE BINARY
 abbrev pub class_byte : ℕ
@@ -46,11 +47,12 @@ IsT4Command (SelectFile id) = Unit {0}
 IsT4Command (ReadBinary offset count) = (offset < offset_end) × (1 ≤ count)
 IsT4Command (UpdateBinary offset content) = (offset < offset_end) × (1 ≤ length content.items)
 
--- A SELECT has its two parameters, the number of bytes of the name and the name; by name it also asks for an answer of any
--- length. A READ BINARY has its offset and how many bytes it asks for, an UPDATE BINARY its offset, how many bytes it
--- brings, and these.
+-- A SELECT has its two parameters, the number of bytes of the name and the name; by name it also asks for an answer of
+-- any length. A READ BINARY has its offset and how many bytes it asks for, an UPDATE BINARY its offset, how many bytes
+-- it brings, and these.
 abbrev pub command_bytes : T4Command → List ℕ
 command_bytes SelectApplication = class_byte ∷ select_code ∷ (by_name ++ 7 ∷ (application_name ++ 0x00 ∷ []))
 command_bytes (SelectFile id) = class_byte ∷ select_code ∷ (by_identifier ++ 2 ∷ high_first id)
 command_bytes (ReadBinary offset count) = class_byte ∷ read_code ∷ (high_first offset ++ count ∷ [])
-command_bytes (UpdateBinary offset content) = class_byte ∷ update_code ∷ (high_first offset ++ length content.items ∷ content.items)
+command_bytes (UpdateBinary offset content) = class_byte ∷ update_code
+    ∷ (high_first offset ++ length content.items ∷ content.items)

@@ -1,14 +1,16 @@
 -- The step of a Type 4 tag on a command (NFC Forum Type 4 Tag; ISO/IEC 7816-4). Which status a tag answers for which
 -- condition is this project's own.
-use Rattle.std.specs.Prelude.{ℕ, ◌+◌, ◌*◌, List, [], ◌∷◌, ◌++◌, length, take, drop, Bool, true, ◌==◌, ◌&&◌, ◌||◌, not, nat_eq, nat_le, nat_lt, if◌then◌else◌}
+use Rattle.std.specs.Prelude.{ℕ, ◌+◌, ◌*◌, List, [], ◌∷◌, ◌++◌, length, take, drop, Bool, true, ◌==◌, ◌&&◌, ◌||◌, not}
+use Rattle.std.specs.Prelude.{nat_eq, nat_le, nat_lt, if◌then◌else◌}
 use Rattle.std.specs.Cmp.Lexicographic.{pointwise}
 use Rattle.t4t_tag.specs.declared.current.CurrentFile.{CurrentFile}
 use Rattle.t4t_tag.specs.declared.current.CurrentFile.TheVariants.{NoFile, Container, Ndef}
-use Rattle.t4t_tag.specs.Store.{T4State, most_read, most_written, file_id, read_access, write_access, everyone, container_id}
+use Rattle.t4t_tag.specs.Store.{T4State, most_read, most_written, file_id, read_access, write_access, everyone}
+use Rattle.t4t_tag.specs.Store.{container_id}
 use Rattle.t4t_tag.specs.Spelling.{class_byte, select_code, read_code, update_code, application_name, offset_end}
 
--- The status bytes that end each answer: done, a wrong length, a class and an instruction that aren't there, a name that
--- isn't known or no current file, parameters that aren't allowed, and an access that isn't.
+-- The status bytes that end each answer: done, a wrong length, a class and an instruction that aren't there, a name
+-- that isn't known or no current file, parameters that aren't allowed, and an access that isn't.
 abbrev pub done : List ℕ
 done = 0x90 ∷ 0x00 ∷ []
 

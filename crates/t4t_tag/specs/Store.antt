@@ -75,7 +75,13 @@ pub record IsSameTag (t u : T4State) : Type 0 where
 
 -- a tag that has just come into the field, or that left it: no application is selected, and there is no current file
 abbrev pub fresh : ℕ → List ℕ → List ℕ → T4State
-fresh code container file = record { code = code; container = container; file = file; selected = false; current = NoFile }
+fresh code container file = record {
+  code = code;
+  container = container;
+  file = file;
+  selected = false;
+  current = NoFile;
+}
 
 abbrev pub darkened : T4State → T4State
 darkened t = record t { selected = false; current = NoFile }

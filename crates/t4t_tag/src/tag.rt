@@ -1,9 +1,11 @@
 //! A Type 4 tag.
 
 ghost use Rattle.std.specs.Prelude.{◌≡◌, ◌≢◌, ◌+◌, ◌<◌, ◌≤◌, ◌↔◌, length, IfOk, IsOk, MatchOption};
-ghost use Rattle.t4t_tag.specs.Store.{T4State, IsT4Store, IsT4State, IsSameTag, least_container, file_size, fresh, darkened, resumed, store_fault_number};
+ghost use Rattle.t4t_tag.specs.Store.{T4State, IsT4Store, IsT4State, IsSameTag, least_container, file_size, fresh};
+ghost use Rattle.t4t_tag.specs.Store.{darkened, resumed, store_fault_number};
 ghost use Rattle.nfc_base.specs.Words.{word};
-ghost use Rattle.t4t_tag.specs.Step.{done, select_application, select_file, select_known, select_turn, read_bytes, read_file, read_turn, update_file, update_turn, t4_answer, t4_after};
+ghost use Rattle.t4t_tag.specs.Step.{done, select_application, select_file, select_known, select_turn, read_bytes};
+ghost use Rattle.t4t_tag.specs.Step.{read_file, read_turn, update_file, update_turn, t4_answer, t4_after};
 ghost use Rattle.t4t_tag.specs.declared.current.CurrentFile.{CurrentFile};
 
 use crate::command::{APPLICATION, CLASS, READ_BINARY, SELECT, UPDATE_BINARY};

@@ -6,7 +6,8 @@ use Rattle.t5t_tag.specs.Store.{T5State, id_size, block_count, is_locked}
 use Rattle.t5t_tag.specs.Mask.{asks_for}
 use Rattle.t5t_tag.specs.Slots.{slot_of, asks_in_slots, begun}
 use Rattle.t5t_tag.specs.Spelling.{addressed_flags, plain_flags, inventory_flags, slots_flags, inventory_code, quiet_code}
-use Rattle.t5t_tag.specs.Step.{T5Turn, silent, tells, refuses, not_supported, no_block, block_locked, read_turn, read_many_turn, write_turn, Asked, Reads, ReadsMany, Writes, Unknown, asked, asked_turn, obeyed, names, addressed, plain, inventory, out_of_round, in_slot, slots, bytes_turn, is_nfc_v, t5_after}
+use Rattle.t5t_tag.specs.Step.{T5Turn, silent, tells, refuses, not_supported, no_block, block_locked, read_turn, read_many_turn, write_turn, Asked, Reads, ReadsMany, Writes, Unknown, asked}
+use Rattle.t5t_tag.specs.Step.{asked_turn, obeyed, names, addressed, plain, inventory, out_of_round, in_slot, slots, bytes_turn, is_nfc_v, t5_after}
 use Rattle.t5t_tag.proofs.Stores.{length_with_block, with_block_again}
 use Rattle.t5t_tag.proofs.Turns.{writes, hushes, by_test, less_of, same_of, on_write, on_obeyed}
 use Rattle.t5t_tag.proofs.Steps.{read_leaves, read_many_leaves}

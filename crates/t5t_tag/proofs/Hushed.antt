@@ -6,7 +6,8 @@ use Rattle.t5t_tag.specs.declared.round.Round.{Round}
 use Rattle.t5t_tag.specs.declared.answer.T5Answer.TheVariants.{Content}
 use Rattle.t5t_tag.specs.Store.{T5State, id_size, block_count, is_locked}
 use Rattle.t5t_tag.specs.Spelling.{addressed_flags, quiet_code, most_content}
-use Rattle.t5t_tag.specs.Step.{T5Turn, silent, tells, refuses, not_supported, no_block, block_locked, blocks_of, read_turn, read_many_turn, write_turn, Asked, Reads, ReadsMany, Writes, Unknown, asked, asked_turn, obeyed, names, addressed, plain, out_of_round, t5_turn}
+use Rattle.t5t_tag.specs.Step.{T5Turn, silent, tells, refuses, not_supported, no_block, block_locked, blocks_of, read_turn, read_many_turn, write_turn, Asked, Reads, ReadsMany, Writes, Unknown, asked}
+use Rattle.t5t_tag.specs.Step.{asked_turn, obeyed, names, addressed, plain, out_of_round, t5_turn}
 use Rattle.t5t_tag.proofs.Turns.{writes, hushes}
 
 -- a tag that may be quiet, and in a round

@@ -1,5 +1,6 @@
 -- What a tag answers to an inventory: to any, to one of its identifier, and to one of another.
-use Rattle.std.proofs.Common.{◌≡◌, ◌≢◌, ℕ, suc, ◌-◌, ◌%◌, ◌*◌, ◌^◌, ◌<◌, ◌≤◌, min, List, [], ◌∷◌, length, get_or, take, Bool, true, false, not, nat_eq, nat_le, ◌&&◌, if◌then◌else◌, refl, sym, ◌∙◌, ap, arith}
+use Rattle.std.proofs.Common.{◌≡◌, ◌≢◌, ℕ, suc, ◌-◌, ◌%◌, ◌*◌, ◌^◌, ◌<◌, ◌≤◌, min, List, [], ◌∷◌, length, get_or, take, Bool, true, false, not, nat_eq, nat_le, ◌&&◌, if◌then◌else◌, refl, sym, ◌∙◌, ap}
+use Rattle.std.proofs.Common.{arith}
 use Rattle.std.specs.Cmp.Lexicographic.{pointwise}
 use Rattle.std.proofs.lemmas.List.{length-reverse, reverse-reverse, get_or-reverse, get_or_past}
 use Rattle.std.proofs.Math.Seq.{take-length}
@@ -65,7 +66,8 @@ unpicked t is id other = by_mask t.quiet (pointwise nat_eq (low_first id) (mask_
         let low : low_first id ≡ low_first t.id = equal_bytes (low_first id) (mask_of t.id most_bits) h ∙ whole_mask t is in
         sym (reverse-reverse id) ∙ ap low_first low ∙ reverse-reverse t.id
 
-    by_mask : (quiet v : Bool) → pointwise nat_eq (low_first id) (mask_of t.id most_bits) ≡ v → (if not quiet && v then tells (out_of_round t) (Present t.id) else silent (out_of_round t)) ≡ silent (out_of_round t)
+    by_mask : (quiet v : Bool) → pointwise nat_eq (low_first id) (mask_of t.id most_bits) ≡ v
+        → (if not quiet && v then tells (out_of_round t) (Present t.id) else silent (out_of_round t)) ≡ silent (out_of_round t)
     by_mask true v h = refl
     by_mask false false h = refl
     by_mask false true h = absurd (other (same_id h))

@@ -1,5 +1,6 @@
 -- What is read from a frame is exactly the command that it spells.
-use Rattle.std.proofs.Common.{◌≡◌, ℕ, suc, ◌+◌, ◌*◌, ◌/◌, ◌%◌, ◌<◌, ◌≤◌, slice_index, List, [], ◌∷◌, ◌++◌, length, take, drop, Bool, true, false, nat_eq, nat_le, ◌==◌, ◌&&◌, if◌then◌else◌, Option, Some, None, ◌↔◌, refl, sym, ◌∙◌, ap, subst, arith}
+use Rattle.std.proofs.Common.{◌≡◌, ℕ, suc, ◌+◌, ◌*◌, ◌/◌, ◌%◌, ◌<◌, ◌≤◌, slice_index, List, [], ◌∷◌, ◌++◌, length, take, drop, Bool, true, false, nat_eq, nat_le, ◌==◌, ◌&&◌, if◌then◌else◌, Option}
+use Rattle.std.proofs.Common.{Some, None, ◌↔◌, refl, sym, ◌∙◌, ap, subst, arith}
 use Rattle.std.specs.Cmp.Lexicographic.{pointwise}
 use Rattle.std.proofs.lemmas.List.{append-nil, get_or-drop, length-append, length-reverse, length-take-le, nil_from_length, reverse-reverse, take-append-drop}
 use Rattle.std.proofs.Math.Seq.{take-append_seam, drop-append_seam}
@@ -11,7 +12,8 @@ use Rattle.t5t_tag.specs.declared.command.T5Command.TheVariants.{Inventory, Slot
 use Rattle.t5t_tag.specs.Store.{id_size}
 use Rattle.t5t_tag.specs.Mask.{low_first, most_bits, mask_size, kept}
 use Rattle.t5t_tag.specs.Slots.{most_slot_bits}
-use Rattle.t5t_tag.specs.Spelling.{addressed_flags, plain_flags, inventory_flags, slots_flags, inventory_code, quiet_code, read_code, write_code, read_many_code, read_wide_code, write_wide_code, most_written, wide, head, IsAddress, IsMask, IsT5Command, command_frame, T5Spelling}
+use Rattle.t5t_tag.specs.Spelling.{addressed_flags, plain_flags, inventory_flags, slots_flags, inventory_code, quiet_code, read_code, write_code, read_many_code, read_wide_code, write_wide_code}
+use Rattle.t5t_tag.specs.Spelling.{most_written, wide, head, IsAddress, IsMask, IsT5Command, command_frame, T5Spelling}
 use Rattle.t5t_tag.specs.Reading.{filled, is_mask, read_quiet, read_write, read_write_wide, read_pair, read_command, read_addressed, read_inventory, read_slots, read_bits, command_of, spelled_command}
 use Rattle.t5t_tag.specs.Step.{wide_number}
 use Rattle.t5t_tag.proofs.Bytes.{equal_of, at_most, is_at_most, left_of, right_of, equal_bytes, bytes_self, same_number, by_if}

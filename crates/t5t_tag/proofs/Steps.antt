@@ -1,5 +1,6 @@
 -- What the steps of a tag give its reader, and what they leave.
-use Rattle.std.proofs.Common.{◌≡◌, ◌≢◌, ℕ, ◌+◌, ◌*◌, ◌/◌, ◌%◌, List, [], ◌∷◌, ◌++◌, length, take, drop, Bool, true, false, not, nat_eq, nat_le, ◌==◌, ◌&&◌, if◌then◌else◌, Option, Some, None, refl, sym, ◌∙◌, ap, arith}
+use Rattle.std.proofs.Common.{◌≡◌, ◌≢◌, ℕ, ◌+◌, ◌*◌, ◌/◌, ◌%◌, List, [], ◌∷◌, ◌++◌, length, take, drop, Bool, true, false, not, nat_eq, nat_le, ◌==◌, ◌&&◌, if◌then◌else◌, Option, Some, None, refl}
+use Rattle.std.proofs.Common.{sym, ◌∙◌, ap, arith}
 use Rattle.std.specs.Cmp.Lexicographic.{pointwise}
 use Rattle.std.proofs.lemmas.List.{length-append, length-reverse, reverse-reverse}
 use Rattle.std.proofs.Math.Seq.{take-append_seam, drop-append_seam}
@@ -13,7 +14,8 @@ use Rattle.t5t_tag.specs.declared.round.Round.{Round}
 use Rattle.t5t_tag.specs.Store.{T5State, IsT5Shape, id_size, block_count}
 use Rattle.t5t_tag.specs.Mask.{low_first}
 use Rattle.t5t_tag.specs.Spelling.{quiet_code, read_code, write_code, read_many_code, read_wide_code, write_wide_code, most_content, wide, head, command_frame, answer_frame}
-use Rattle.t5t_tag.specs.Step.{T5Turn, silent, tells, refuses, not_supported, no_block, blocks_of, read_turn, read_many_turn, write_turn, wide_number, Writes, asked, asked_turn, obeyed, names, addressed, out_of_round, t5_turn, sent, t5_answer, t5_after}
+use Rattle.t5t_tag.specs.Step.{T5Turn, silent, tells, refuses, not_supported, no_block, blocks_of, read_turn, read_many_turn, write_turn, wide_number, Writes, asked, asked_turn, obeyed, names}
+use Rattle.t5t_tag.specs.Step.{addressed, out_of_round, t5_turn, sent, t5_answer, t5_after}
 use Rattle.t5t_tag.proofs.Bytes.{equal_bytes, bytes_self}
 use Rattle.t5t_tag.proofs.Stores.{length_with_block, still_store}
 use Rattle.t5t_tag.proofs.Turns.{hushes, by_test, on_turn}
@@ -107,7 +109,8 @@ none_behind : (k : ℕ) → (8 + k == 8) ≡ (k == 0)
 none_behind k = grind arith
 
 -- a tag hears what is addressed to it, quiet or not
-own_turn : (t : T5State) → length t.id ≡ id_size → (code : ℕ) (rest : List ℕ) → addressed t (code ∷ (low_first t.id ++ rest)) ≡ (if (code == quiet_code) && (length rest == 0) then hushes t else obeyed t code rest)
+own_turn : (t : T5State) → length t.id ≡ id_size → (code : ℕ) (rest : List ℕ) → addressed t (code ∷ (low_first t.id ++ rest))
+    ≡ (if (code == quiet_code) && (length rest == 0) then hushes t else obeyed t code rest)
 own_turn t eight code rest =
     let low : List ℕ = low_first t.id in
     let long : length low ≡ id_size = length-reverse t.id ∙ eight in
@@ -131,7 +134,8 @@ asked_write : (block : ℕ) (content : List ℕ) → asked write_code (block ∷
 asked_write block [] = refl
 asked_write block (byte ∷ content) = refl
 
-pub write_turns : (t : T5State) → IsT5Shape t → (block : ℕ) (content : List ℕ) → t5_turn t (command_frame (Write (Some t.id) block (record { items = content }))) ≡ write_turn (out_of_round t) block content
+pub write_turns : (t : T5State) → IsT5Shape t → (block : ℕ) (content : List ℕ) → t5_turn t (command_frame (Write (Some t.id) block (record { items = content })))
+    ≡ write_turn (out_of_round t) block content
 write_turns t is block content = addressed_turn t is write_code (block ∷ content) ∙ ap (asked_turn (out_of_round t)) (asked_write block content)
 
 -- READ MULTIPLE BLOCKS, and both with a block number of two bytes
@@ -144,7 +148,8 @@ number_of_wide block = omega arith
 pub read_wide_turns : (t : T5State) → IsT5Shape t → (block : ℕ) → t5_turn t (command_frame (ReadWide (Some t.id) block)) ≡ read_turn (out_of_round t) block
 read_wide_turns t is block = addressed_turn t is read_wide_code (wide block) ∙ ap (λ n. read_turn (out_of_round t) n) (number_of_wide block)
 
-pub write_wide_turns : (t : T5State) → IsT5Shape t → (block : ℕ) (content : List ℕ) → t5_turn t (command_frame (WriteWide (Some t.id) block (record { items = content }))) ≡ write_turn (out_of_round t) block content
+pub write_wide_turns : (t : T5State) → IsT5Shape t → (block : ℕ) (content : List ℕ) → t5_turn t (command_frame (WriteWide (Some t.id) block (record { items = content })))
+    ≡ write_turn (out_of_round t) block content
 write_wide_turns t is block content = addressed_turn t is write_wide_code (wide block ++ content) ∙ ap (λ n. write_turn (out_of_round t) n content) (number_of_wide block)
 
 -- a read leaves the tag untouched

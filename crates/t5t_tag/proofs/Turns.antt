@@ -8,7 +8,8 @@ use Rattle.t5t_tag.specs.declared.round.Round.{Round}
 use Rattle.t5t_tag.specs.Mask.{asks_for}
 use Rattle.t5t_tag.specs.Slots.{slot_of, asks_in_slots, begun}
 use Rattle.t5t_tag.specs.Spelling.{addressed_flags, plain_flags, inventory_flags, slots_flags, inventory_code, quiet_code, most_content}
-use Rattle.t5t_tag.specs.Step.{T5Turn, silent, tells, refuses, not_supported, no_block, block_locked, blocks_of, read_turn, read_many_turn, write_turn, rewritten, Asked, Reads, ReadsMany, Writes, Unknown, asked, asked_turn, obeyed, names, addressed, plain, inventory, out_of_round, in_slot, slots, next_round, flagged_turn, bytes_turn, is_nfc_v, t5_turn}
+use Rattle.t5t_tag.specs.Step.{T5Turn, silent, tells, refuses, not_supported, no_block, block_locked, blocks_of, read_turn, read_many_turn, write_turn, rewritten, Asked, Reads, ReadsMany, Writes}
+use Rattle.t5t_tag.specs.Step.{Unknown, asked, asked_turn, obeyed, names, addressed, plain, inventory, out_of_round, in_slot, slots, next_round, flagged_turn, bytes_turn, is_nfc_v, t5_turn}
 
 -- a turn in which a block was written, and one that made the tag quiet
 abbrev pub writes : T5State → ℕ → List ℕ → T5Turn

@@ -1,15 +1,19 @@
 -- What a frame is read as, as a function: the command or the answer that it spells, where it spells one.
-use Rattle.std.specs.Prelude.{ℕ, ◌+◌, ◌-◌, ◌*◌, ◌%◌, List, [], ◌∷◌, ◌++◌, length, take, drop, replicate, Bool, ◌==◌, ◌&&◌, nat_eq, nat_le, if◌then◌else◌, Option, Some, None}
+use Rattle.std.specs.Prelude.{ℕ, ◌+◌, ◌-◌, ◌*◌, ◌%◌, List, [], ◌∷◌, ◌++◌, length, take, drop, replicate, Bool, ◌==◌}
+use Rattle.std.specs.Prelude.{◌&&◌, nat_eq, nat_le, if◌then◌else◌, Option, Some, None}
 use Rattle.std.specs.Cmp.Lexicographic.{pointwise}
 use Rattle.nfc_base.specs.Signal.{Signal}
 use Rattle.t5t_tag.specs.declared.command.T5Command.{T5Command}
-use Rattle.t5t_tag.specs.declared.command.T5Command.TheVariants.{Inventory, Slots, NextSlot, Quiet, Read, Write, ReadMany, ReadWide, WriteWide}
+use Rattle.t5t_tag.specs.declared.command.T5Command.TheVariants.{Inventory, Slots, NextSlot, Quiet, Read, Write}
+use Rattle.t5t_tag.specs.declared.command.T5Command.TheVariants.{ReadMany, ReadWide, WriteWide}
 use Rattle.t5t_tag.specs.declared.answer.T5Answer.{T5Answer}
 use Rattle.t5t_tag.specs.declared.answer.T5Answer.TheVariants.{Present, Content, Error}
 use Rattle.t5t_tag.specs.Store.{id_size}
 use Rattle.t5t_tag.specs.Mask.{low_first, most_bits, mask_size, kept}
 use Rattle.t5t_tag.specs.Slots.{most_slot_bits}
-use Rattle.t5t_tag.specs.Spelling.{addressed_flags, plain_flags, inventory_flags, slots_flags, inventory_code, quiet_code, read_code, write_code, read_many_code, read_wide_code, write_wide_code, most_written, most_content, no_error, no_dsfid, error}
+use Rattle.t5t_tag.specs.Spelling.{addressed_flags, plain_flags, inventory_flags, slots_flags, inventory_code}
+use Rattle.t5t_tag.specs.Spelling.{quiet_code, read_code, write_code, read_many_code, read_wide_code, write_wide_code}
+use Rattle.t5t_tag.specs.Spelling.{most_written, most_content, no_error, no_dsfid, error}
 use Rattle.t5t_tag.specs.Step.{is_nfc_v, wide_number}
 
 -- a mask as it is sent, filled up with 0 to eight bytes
@@ -33,10 +37,12 @@ read_quiet None = None
 read_quiet (Some id) = Some (Quiet id)
 
 abbrev pub read_write : Option (List ℕ) → ℕ → List ℕ → Option T5Command
-read_write id block rest = if nat_le (length rest) most_written then Some (Write id block (record { items = rest })) else None
+read_write id block rest = if nat_le (length rest) most_written then Some (Write id block (record { items = rest }))
+    else None
 
 abbrev pub read_write_wide : Option (List ℕ) → ℕ → List ℕ → Option T5Command
-read_write_wide id block rest = if nat_le (length rest) most_written then Some (WriteWide id block (record { items = rest })) else None
+read_write_wide id block rest = if nat_le (length rest) most_written
+    then Some (WriteWide id block (record { items = rest })) else None
 
 -- the command with a code and two bytes behind it
 abbrev pub read_pair : Option (List ℕ) → ℕ → ℕ → ℕ → Option T5Command
@@ -60,7 +66,8 @@ read_command id code (a ∷ b ∷ rest) =
 
 abbrev pub read_addressed : ℕ → List ℕ → Option T5Command
 read_addressed code rest =
-    if nat_le id_size (length rest) then read_command (Some (low_first (take id_size rest))) code (drop id_size rest) else None
+    if nat_le id_size (length rest) then read_command (Some (low_first (take id_size rest))) code (drop id_size rest)
+    else None
 
 -- behind the code of an inventory: how many bits the mask has, and the mask
 abbrev pub read_bits : (ℕ → List ℕ → Option T5Command) → List ℕ → Option T5Command
@@ -83,7 +90,8 @@ spelled_command f = if is_nfc_v f.tech && (f.tail == 0) then command_of f.bytes 
 
 abbrev pub read_content : List ℕ → Option T5Answer
 read_content bytes =
-    if nat_le (length bytes) most_content && (length bytes % 4 == 0) then Some (Content (record { items = bytes })) else None
+    if nat_le (length bytes) most_content && (length bytes % 4 == 0) then Some (Content (record { items = bytes }))
+    else None
 
 -- what follows the byte that tells of no error: nine bytes are an identifier
 abbrev pub read_told : List ℕ → Option T5Answer

@@ -2,7 +2,8 @@
 use Rattle.std.specs.Prelude.{◌≡◌, ◌≤◌, ℕ, ◌/◌, ◌%◌, List, [], ◌∷◌, ◌++◌, length, take, Option, Some, None}
 use Rattle.nfc_base.specs.Signal.{Signal, whole_v}
 use Rattle.t5t_tag.specs.declared.command.T5Command.{T5Command}
-use Rattle.t5t_tag.specs.declared.command.T5Command.TheVariants.{Inventory, Slots, NextSlot, Quiet, Read, Write, ReadMany, ReadWide, WriteWide}
+use Rattle.t5t_tag.specs.declared.command.T5Command.TheVariants.{Inventory, Slots, NextSlot, Quiet, Read, Write}
+use Rattle.t5t_tag.specs.declared.command.T5Command.TheVariants.{ReadMany, ReadWide, WriteWide}
 use Rattle.t5t_tag.specs.declared.answer.T5Answer.{T5Answer}
 use Rattle.t5t_tag.specs.declared.answer.T5Answer.TheVariants.{Present, Content, Error}
 use Rattle.t5t_tag.specs.Store.{id_size}
@@ -121,7 +122,8 @@ answer_frame (Present id) = whole_v (no_error ∷ no_dsfid ∷ low_first id)
 answer_frame (Content content) = whole_v (no_error ∷ content.items)
 answer_frame (Error code) = whole_v (error ∷ code ∷ [])
 
--- Which answers are in range. Content is 0 to 256 bytes, a multiple of four in number, so none looks like an identifier.
+-- Which answers are in range. Content is 0 to 256 bytes, a multiple of four in number, so none looks like an
+-- identifier.
 abbrev pub IsT5Answer : T5Answer → Type 0
 IsT5Answer (Present id) = length id ≡ id_size
 IsT5Answer (Content content) = (length content.items ≤ most_content) × (length content.items % 4 ≡ 0)

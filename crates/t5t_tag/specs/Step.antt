@@ -1,6 +1,7 @@
 -- The step of a Type 5 tag on a frame (NFC Forum Type 5 Tag; ISO/IEC 15693-3). Which error a tag tells for which
 -- condition, and to which frames it is silent, is this project's own.
-use Rattle.std.specs.Prelude.{ℕ, ◌+◌, ◌*◌, List, [], ◌∷◌, length, take, drop, Bool, true, false, ◌==◌, ◌&&◌, not, nat_eq, nat_le, if◌then◌else◌, Option, Some, None}
+use Rattle.std.specs.Prelude.{ℕ, ◌+◌, ◌*◌, List, [], ◌∷◌, length, take, drop, Bool, true, false, ◌==◌, ◌&&◌, not}
+use Rattle.std.specs.Prelude.{nat_eq, nat_le, if◌then◌else◌, Option, Some, None}
 use Rattle.std.specs.Cmp.Lexicographic.{pointwise}
 use Rattle.nfc_base.specs.declared.frame.Tech.{Tech}
 use Rattle.nfc_base.specs.declared.frame.Tech.TheVariants.{A, V, F}
@@ -12,7 +13,9 @@ use Rattle.t5t_tag.specs.Store.{T5State, id_size, block_count, is_locked}
 use Rattle.t5t_tag.specs.declared.round.Round.{Round}
 use Rattle.t5t_tag.specs.Mask.{low_first, asks_for}
 use Rattle.t5t_tag.specs.Slots.{slot_of, asks_in_slots, begun, moved_on, is_own}
-use Rattle.t5t_tag.specs.Spelling.{addressed_flags, plain_flags, inventory_flags, slots_flags, inventory_code, quiet_code, read_code, write_code, read_many_code, read_wide_code, write_wide_code, most_content, answer_frame}
+use Rattle.t5t_tag.specs.Spelling.{addressed_flags, plain_flags, inventory_flags, slots_flags, inventory_code}
+use Rattle.t5t_tag.specs.Spelling.{quiet_code, read_code, write_code, read_many_code, read_wide_code, write_wide_code}
+use Rattle.t5t_tag.specs.Spelling.{most_content, answer_frame}
 
 -- the error codes: a command that isn't supported or has another length, a block that isn't there, a locked block
 abbrev pub not_supported : ℕ
@@ -120,7 +123,8 @@ abbrev pub addressed : T5State → List ℕ → T5Turn
 addressed t [] = silent t
 addressed t (code ∷ rest) =
     if not (names t rest) then silent t
-    else if (code == quiet_code) && (length rest == id_size) then record { answer = None; after = record t { quiet = true } }
+    else if (code == quiet_code) && (length rest == id_size)
+    then record { answer = None; after = record t { quiet = true } }
     else obeyed t code (drop id_size rest)
 
 -- Behind the flags of a command to every tag: a quiet tag doesn't hear it.
@@ -152,7 +156,8 @@ abbrev pub slots : T5State → List ℕ → T5Turn
 slots t [] = silent t
 slots t (code ∷ []) = silent t
 slots t (code ∷ bits ∷ mask) =
-    if (code == inventory_code) && not t.quiet && asks_in_slots t.id bits mask then in_slot t (Some (begun (slot_of t.id bits)))
+    if (code == inventory_code) && not t.quiet && asks_in_slots t.id bits mask
+    then in_slot t (Some (begun (slot_of t.id bits)))
     else silent t
 
 -- the round behind an empty frame: one slot on, where the tag is in a round that has one more

@@ -1,5 +1,6 @@
 -- What a Type 5 tag holds (NFC Forum Type 5 Tag; ISO/IEC 15693-3).
-use Rattle.std.specs.Prelude.{◌≡◌, ◌⊎◌, ℕ, ◌/◌, ◌%◌, ◌<◌, ◌≤◌, List, length, get_or, slice_index, set, replicate, Bool, true, false, Option, None}
+use Rattle.std.specs.Prelude.{◌≡◌, ◌⊎◌, ℕ, ◌/◌, ◌%◌, ◌<◌, ◌≤◌, List, length, get_or, slice_index, set, replicate, Bool}
+use Rattle.std.specs.Prelude.{true, false, Option, None}
 use Rattle.t5t_tag.specs.declared.round.Round.{Round}
 use Rattle.t5t_tag.specs.declared.tag.StoreFault.{StoreFault}
 use Rattle.t5t_tag.specs.declared.tag.StoreFault.TheVariants.{BadStore}

@@ -17,8 +17,8 @@ const ERROR: u8 = 0x01;
 /// The byte before an identifier that says how its memory is used.
 const NO_DSFID: u8 = 0x00;
 
-/// An answer (NFC Forum Type 5 Tag; ISO/IEC 15693-3): the tag's identifier, high byte first, the content of blocks, none
-/// to a write, or the code of an error.
+/// An answer (NFC Forum Type 5 Tag; ISO/IEC 15693-3): the tag's identifier, high byte first, the content of blocks,
+/// none to a write, or the code of an error.
 #[derive(Clone, Debug, Drop, PartialEq, Eq)]
 pub enum T5Answer {
     Present { id: [u8; 8] },

@@ -4,15 +4,16 @@ ghost use Rattle.std.specs.Prelude.{◌≡◌, ◌↔◌, ◌≤◌, ◌∷◌, 
 ghost use Rattle.nfc_base.specs.Signal.{whole_v};
 ghost use Rattle.t5t_tag.specs.Mask.{mask_size};
 ghost use Rattle.t5t_tag.specs.Spelling.{head, inventory_code, command_frame, IsT5Command, T5Spelling};
-ghost use Rattle.t5t_tag.specs.Reading.{filled, is_mask, read_inventory, read_slots, read_write, read_write_wide, read_command, read_addressed, command_of, spelled_command};
+ghost use Rattle.t5t_tag.specs.Reading.{filled, is_mask, read_inventory, read_slots, read_write, read_write_wide};
+ghost use Rattle.t5t_tag.specs.Reading.{read_command, read_addressed, command_of, spelled_command};
 ghost use Rattle.t5t_tag.specs.declared.command.T5Command.{T5Command};
 
 use crate::identifier::{MOST_BITS, MOST_SLOT_BITS, kept, mask_size, turned};
 use arrayvec::ArrayVec;
 use nfc_base::{Frame, Tech};
 
-/// The flags of a command to one tag by its identifier, of one to every tag that isn't quiet, and of an inventory of one
-/// slot or of sixteen.
+/// The flags of a command to one tag by its identifier, of one to every tag that isn't quiet, and of an inventory of
+/// one slot or of sixteen.
 pub(crate) const ADDRESSED: u8 = 0x22;
 
 pub(crate) const PLAIN: u8 = 0x02;
@@ -42,14 +43,14 @@ pub const SHORT_NUMBERS: u16 = 256;
 /// addressed to that tag alone.
 #[derive(Clone, Debug, Drop, PartialEq, Eq)]
 pub enum T5Command {
-    /// Which tags are there whose identifier ends with these lowest bits? The mask has its low byte first, and its unused
-    /// bits are 0.
+    /// Which tags are there whose identifier ends with these lowest bits? The mask has its low byte first, and its
+    /// unused bits are 0.
     Inventory {
         mask_bits: u8,
         mask: [u8; 8],
     },
-    /// The same, and each tag answers in one of sixteen slots, by the next four bits of its identifier: in the first one
-    /// at once. A mask has at most 60 bits.
+    /// The same, and each tag answers in one of sixteen slots, by the next four bits of its identifier: in the first
+    /// one at once. A mask has at most 60 bits.
     Slots {
         mask_bits: u8,
         mask: [u8; 8],
@@ -101,8 +102,8 @@ impl T5Command {
         read_bytes(frame.view())
     }
 
-    /// The frame that spells it, where a mask has at most 64 bits, or 60 of slots, and its unused bits are 0. It takes no
-    /// memory.
+    /// The frame that spells it, where a mask has at most 64 bits, or 60 of slots, and its unused bits are 0. It takes
+    /// no memory.
     pub fn to_frame(&self) -> Frame
         ensures frame { result ≡ command_frame self.now }
         ensures exact { IsT5Command self.now → T5Spelling self.now result }

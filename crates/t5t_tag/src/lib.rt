@@ -1,8 +1,9 @@
-//! The Type 5 tag (NFC Forum Type 5 Tag; ISO/IEC 15693-3): what a reader asks of it, what it answers, and the tag itself.
+//! The Type 5 tag (NFC Forum Type 5 Tag; ISO/IEC 15693-3): what a reader asks of it, what it answers, and the tag
+//! itself.
 //!
-//! `command` and `answer` read and write the frames of both sides; `tag` is a store of blocks of one size that obeys one
-//! frame at a time; `identifier` compares identifiers with what a frame says of them; `round` counts the slots of an
-//! inventory. Only the store takes memory, and its maker does.
+//! `command` and `answer` read and write the frames of both sides; `tag` is a store of blocks of one size that obeys
+//! one frame at a time; `identifier` compares identifiers with what a frame says of them; `round` counts the slots of
+//! an inventory. Only the store takes memory, and its maker does.
 #![tactic(auto)]
 
 mod answer;

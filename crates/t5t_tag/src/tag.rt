@@ -2,8 +2,10 @@
 
 ghost use Rattle.std.specs.Prelude.{◌≡◌, ◌<◌, ◌≤◌, ◌+◌, ◌*◌, ◌↔◌, ◌∷◌, length, not, nat_le, IfOk, IsOk, Some};
 ghost use Rattle.t5t_tag.specs.Spelling.{inventory_code};
-ghost use Rattle.t5t_tag.specs.Store.{IsT5Store, IsT5State, block_count, fresh, darkened, resumed, locked_too, store_fault_number};
-ghost use Rattle.t5t_tag.specs.Step.{blocks_of, read_turn, read_many_turn, write_turn, obeyed, addressed, plain, inventory, in_slot, slots, bytes_turn, t5_answer, t5_after};
+ghost use Rattle.t5t_tag.specs.Store.{IsT5Store, IsT5State, block_count, fresh, darkened, resumed, locked_too};
+ghost use Rattle.t5t_tag.specs.Store.{store_fault_number};
+ghost use Rattle.t5t_tag.specs.Step.{blocks_of, read_turn, read_many_turn, write_turn, obeyed, addressed, plain};
+ghost use Rattle.t5t_tag.specs.Step.{inventory, in_slot, slots, bytes_turn, t5_answer, t5_after};
 ghost use Rattle.t5t_tag.specs.declared.answer.T5Answer.TheVariants.{Content};
 
 use crate::answer::T5Answer;
@@ -52,8 +54,8 @@ impl StoreFault {
     }
 }
 
-/// A tag of blocks of one size, of at most 65,536 bytes (NFC Forum Type 5 Tag; ISO/IEC 15693-3). Which error it tells for
-/// which condition is this project's own.
+/// A tag of blocks of one size, of at most 65,536 bytes (NFC Forum Type 5 Tag; ISO/IEC 15693-3). Which error it tells
+/// for which condition is this project's own.
 #[derive(Debug, Drop)]
 pub struct T5Tag {
     id: [u8; 8],
@@ -83,7 +85,8 @@ impl Model for T5Tag {
 }
 
 impl T5Tag {
-    /// A tag with this identifier, high byte first, that holds these bytes in blocks of this size, with no block locked.
+    /// A tag with this identifier, high byte first, that holds these bytes in blocks of this size, with no block
+    /// locked.
     pub fn new(id: [u8; 8], store: Vec<u8>, block: u8) -> Result<T5Tag, StoreFault>
         ensures ok { IfOk result (λ t. t ≡ fresh id block store.items) }
         ensures exact { IsOk result ↔ IsT5Store block store.items }

@@ -61,7 +61,8 @@ area_known id size n a b known space r names whole (inr due) =
     let bytes : ℕ = size * (progress_at size a.state.store (suc n)).blocks in
     let long = known_long id size (suc n) a b known r in
     let end : space.end ≡ (t5_reach size names.area).end = ap (λ s. s.end) names.reach ∙ ap (λ m. (t5_reach m names.area).end) r.size' in
-    let more : AreaGoesOn size bytes (Ok (Ready names.area.space names.area.wide names.area.many)) = subst (λ x. AreaGoesOn size bytes x) (ready_here known space names) (subst (λ xs. AreaGoesOn size bytes (t5_front xs)) (sym r.bytes) due.more) in
+    let more : AreaGoesOn size bytes (Ok (Ready names.area.space names.area.wide names.area.many)) =
+    subst (λ x. AreaGoesOn size bytes x) (ready_here known space names) (subst (λ xs. AreaGoesOn size bytes (t5_front xs)) (sym r.bytes) due.more) in
     omega (arith, long, end, whole, more)
 
 -- the area that the store's container names
@@ -78,7 +79,8 @@ ending space e = record space { end = e }
 cut_same : (space : Space) (n : ℕ) → space.end ≤ n → space ≡ cut space n
 cut_same space n low = (let least : space.end ≡ min space.end n = omega (arith, low) in ap (λ e. ending space e) least)
 
-pub all_is_known : (id : List ℕ) (size n : ℕ) (a b : LinkView) (known : Known) (space : Space) → IsReading ToWrite id size a b known (suc n) → Names known space → space.end ≤ length known.bytes.items →
+pub all_is_known : (id : List ℕ) (size n : ℕ) (a b : LinkView) (known : Known) (space : Space) → IsReading ToWrite id size a b known (suc n) → Names known space → space.end ≤ length known.bytes.items
+    →
     IsAllKnown id size a b known space
 all_is_known id size n a b known space r names whole =
     let long = known_long id size (suc n) a b known r in

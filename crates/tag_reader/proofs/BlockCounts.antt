@@ -21,7 +21,8 @@ use Rattle.tag_reader.proofs.BlockSingles.{once, none_single}
 use Rattle.tag_reader.proofs.BlockSeldom.{due_surveyed, asks_listed, asked_once, asked_seldom}
 
 -- what is asked for alone then
-alone : (size block : ℕ) (r : Result T5Container ContainerFault) → IsOne (ask_by size false block r) → ((f : ContainerFault) → r ≡ Err f → ⊥) → ((space : _) (wide many : Bool) → r ≡ Ok (Ready space wide many) → many ≡ true) →
+alone : (size block : ℕ) (r : Result T5Container ContainerFault) → IsOne (ask_by size false block r) → ((f : ContainerFault) → r ≡ Err f → ⊥)
+    → ((space : _) (wide many : Bool) → r ≡ Ok (Ready space wide many) → many ≡ true) →
     (r ≡ Ok More) ⊎ (256 ≤ block)
 alone size block (Ok More) one faultless allows = inl refl
 alone size block (Err f) one faultless allows = absurd (faultless f refl)
@@ -64,7 +65,8 @@ is_few id size store n is each = record {
         let within : size * p.blocks ≤ length store = within_at k due in
         let long : length known ≡ size * p.blocks = length-take-le (size * p.blocks) store within in
         let block : length known / size ≡ p.blocks = ap (λ m. m / size) long ∙ mul-div_cancel_left p.blocks (omega (arith, facts.least)) in
-        let single : IsOne (ask_by size false p.blocks (t5_front known)) = subst (λ b. IsOne (ask_by size false b (t5_front known))) block (subst (λ v. IsOne (ask_by size v (length known / size) (t5_front known))) free one) in
+        let single : IsOne (ask_by size false p.blocks (t5_front known)) = subst (λ b. IsOne (ask_by size false b (t5_front known))) block
+        (subst (λ v. IsOne (ask_by size v (length known / size) (t5_front known))) free one) in
         elim (alone size p.blocks (t5_front known) single (faultless k due) (says k)) [
           | inl open' ↦ inl (front_open known open')
           | inr high ↦ inr high

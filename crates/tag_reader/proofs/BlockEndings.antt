@@ -1,5 +1,6 @@
 -- How a reading of a Type 5 tag ends.
-use Rattle.std.proofs.Common.{◌≡◌, ℕ, zero, suc, ◌+◌, ◌-◌, ◌*◌, ◌<◌, ◌≤◌, min, inl, inr, List, [], ◌∷◌, ◌++◌, length, take, drop, Bool, true, false, append_assoc, append-nil, refl, sym, ◌∙◌, ap, subst, arith}
+use Rattle.std.proofs.Common.{◌≡◌, ℕ, zero, suc, ◌+◌, ◌-◌, ◌*◌, ◌<◌, ◌≤◌, min, inl, inr, List, [], ◌∷◌, ◌++◌, length, take, drop, Bool, true, false, append_assoc, append-nil, refl, sym, ◌∙◌, ap}
+use Rattle.std.proofs.Common.{subst, arith}
 use Rattle.std.specs.Prelude.{Ok, Err}
 use Rattle.std.proofs.lemmas.List.{length-append, take_all}
 use Rattle.nfc_base.specs.TagLinks.{LinkView}
@@ -124,7 +125,8 @@ names_more id a b ps known new space is names gains =
     }
 
 -- a container with a fault, whatever the tag does
-pub faulty_blocks : (id : List ℕ) (a b : LinkView) (ps : List (List ℕ)) (known : Known) (f : ContainerFault) → Under (T5 id) a b ps → IsKnown ps known → 0 < length ps → t5_is_open known.bytes.items ≡ false →
+pub faulty_blocks : (id : List ℕ) (a b : LinkView) (ps : List (List ℕ)) (known : Known) (f : ContainerFault) → Under (T5 id) a b ps → IsKnown ps known → 0 < length ps
+    → t5_is_open known.bytes.items ≡ false →
     t5_front known.bytes.items ≡ Err f → IsFaultBy (T5 id) a b (of_container f)
 faulty_blocks id a b ps known f u is some closed front = container_none (T5 id) a b f (inl (record {
   ps = ps;
@@ -162,7 +164,8 @@ short_blocks id a b ps known known' is open' ends = inr (record {
 pub has_asked : {aim : Aim} (id : List ℕ) (size n : ℕ) (a b : LinkView) → Asks aim (T5 id) size a b n → HasAskedFor aim (T5 id) size a.state.store a b
 has_asked id size n a b asks = record { count = n; each = asks.each; answered = asks.answered; last = inl (asks.last, asks.goes_on.over ∙ sym asks.before) }
 
-pub has_all : {aim : Aim} (id : List ℕ) (size n : ℕ) (a b : LinkView) → Asks aim (T5 id) size a b n → (IsDueFor aim (T5 id) size a.state.store n → ⊥) → HasAskedAllFor aim (T5 id) size a.state.store a b
+pub has_all : {aim : Aim} (id : List ℕ) (size n : ℕ) (a b : LinkView) → Asks aim (T5 id) size a b n → (IsDueFor aim (T5 id) size a.state.store n → ⊥)
+    → HasAskedAllFor aim (T5 id) size a.state.store a b
 has_all id size n a b asks no_more = record {
   commands = first (T5 id) size a.state.store n;
   all = record { count = n; list = refl; each = asks.each; no_more = no_more };
@@ -170,7 +173,8 @@ has_all id size n a b asks no_more = record {
   state = asks.after;
 }
 
-pub reads_told : {aim : Aim} (id : List ℕ) (size n : ℕ) (a b : LinkView) (known : List ℕ) (e : ReadFault) → Asks aim (T5 id) size a b n → (IsDueFor aim (T5 id) size a.state.store n → ⊥) → is_told e ≡ true →
+pub reads_told : {aim : Aim} (id : List ℕ) (size n : ℕ) (a b : LinkView) (known : List ℕ) (e : ReadFault) → Asks aim (T5 id) size a b n → (IsDueFor aim (T5 id) size a.state.store n → ⊥)
+    → is_told e ≡ true →
     IsReadFault (T5 id) size a.state.store a b e → Reads aim (T5 id) size a b known (Err e)
 reads_told id size n a b known e asks no_more told is = record {
   stays = asks.stays;
@@ -196,7 +200,8 @@ pub any_known : {aim : Aim} (id : List ℕ) (size : ℕ) (a b : LinkView) (known
 any_known id size a b known known' e r = record { stays = r.stays; asked = r.asked; whole = r.whole; goes_on = r.goes_on; tells = r.tells; calm = r.calm }
 
 -- a container with a fault
-pub reads_faulty : (aim : Aim) (id : List ℕ) (size n : ℕ) (a b : LinkView) (known : Known) (f : ContainerFault) → IsReading aim id size a b known (suc n) → ((more : List ℕ) → t5_front (known.bytes.items ++ more) ≡ Err f) →
+pub reads_faulty : (aim : Aim) (id : List ℕ) (size n : ℕ) (a b : LinkView) (known : Known) (f : ContainerFault) → IsReading aim id size a b known (suc n)
+    → ((more : List ℕ) → t5_front (known.bytes.items ++ more) ≡ Err f) →
     Reads aim (T5 id) size a b [] (Err (of_container f))
 reads_faulty aim id size n a b known f r front =
     let store : List ℕ = a.state.store in
@@ -218,12 +223,14 @@ reads_faulty aim id size n a b known f r front =
     none (inr due) = next aim due
 
 -- all of the store is known
-pub all_known : {aim : Aim} (id : List ℕ) (size n : ℕ) (a b c : LinkView) (known known' : Known) → IsReading aim id size a b known n → HasRunOut aim id size a c known known' n → known.bytes.items ≡ a.state.store
+pub all_known : {aim : Aim} (id : List ℕ) (size n : ℕ) (a b c : LinkView) (known known' : Known) → IsReading aim id size a b known n → HasRunOut aim id size a c known known' n
+    → known.bytes.items ≡ a.state.store
 all_known id size n a b c known known' r ends =
     r.bytes ∙ ap (λ m. take m a.state.store) (sym ends.end) ∙ take_all (length a.state.store) a.state.store (omega arith)
 
 -- the tag ends before its container does
-pub reads_short : {aim : Aim} (id : List ℕ) (size n : ℕ) (a b c : LinkView) (known known' : Known) → IsReading aim id size a b known n → t5_is_open known.bytes.items ≡ true → HasRunOut aim id size a c known known' n →
+pub reads_short : {aim : Aim} (id : List ℕ) (size n : ℕ) (a b c : LinkView) (known known' : Known) → IsReading aim id size a b known n → t5_is_open known.bytes.items ≡ true
+    → HasRunOut aim id size a c known known' n →
     Reads aim (T5 id) size a c [] (Err fault.BadSize)
 reads_short id size n a b c known known' r open' ends =
     let store : List ℕ = a.state.store in
@@ -292,7 +299,8 @@ blocks_held id size n a b known space front m r names e there places =
     let store : List ℕ = a.state.store in
     let cells : List ℕ = message_cells m in
     let walked = at_store id size n a b known space front (walk.Held m) r names e tt there in
-    let form' = form_here id size n a b known space front (walk.Held m) r names e tt there (form.Message (bytes_at store cells)) (cut_told id size n a b known space front (walk.Held m) r names e tt there) in
+    let form' = form_here id size n a b known space front (walk.Held m) r names e tt there (form.Message (bytes_at store cells))
+    (cut_told id size n a b known space front (walk.Held m) r names e tt there) in
     let below = cells_below front m places in
     let past : List ℕ = drop (size * (progress_at size store (suc n)).blocks) store in
     let read : known.bytes.items ≡ front ++ drop space.end known.bytes.items = store_goes_on known.bytes.items front space.end e in
@@ -319,12 +327,15 @@ blocks_due id size n a b known space front r names e short more =
     inr (record { within = r.within; needs = subst (λ xs. NeedsBlocks size xs (t5_front xs)) r.bytes needs })
 
 -- so it is where the container is open
-pub open_due : (aim : Aim) (id : List ℕ) (size n : ℕ) (a b : LinkView) (known : Known) → IsReading aim id size a b known n → t5_is_open known.bytes.items ≡ true → IsDueFor aim (T5 id) size a.state.store n
+pub open_due : (aim : Aim) (id : List ℕ) (size n : ℕ) (a b : LinkView) (known : Known) → IsReading aim id size a b known n → t5_is_open known.bytes.items ≡ true
+    → IsDueFor aim (T5 id) size a.state.store n
 open_due ToRead id size n a b known r open' =
-    let front : t5_front (known_at size a.state.store (progress_at size a.state.store n)) ≡ Ok More = open_front (known_at size a.state.store (progress_at size a.state.store n)) (subst (λ xs. t5_is_open xs ≡ true) r.bytes open') in
+    let front : t5_front (known_at size a.state.store (progress_at size a.state.store n)) ≡ Ok More =
+    open_front (known_at size a.state.store (progress_at size a.state.store n)) (subst (λ xs. t5_is_open xs ≡ true) r.bytes open') in
     inr (record { within = r.within; needs = subst (λ x. NeedsBlocks size (known_at size a.state.store (progress_at size a.state.store n)) x) (sym front) tt })
 open_due ToWrite id size n a b known r open' =
-    let front : t5_front (known_at size a.state.store (progress_at size a.state.store n)) ≡ Ok More = open_front (known_at size a.state.store (progress_at size a.state.store n)) (subst (λ xs. t5_is_open xs ≡ true) r.bytes open') in
+    let front : t5_front (known_at size a.state.store (progress_at size a.state.store n)) ≡ Ok More =
+    open_front (known_at size a.state.store (progress_at size a.state.store n)) (subst (λ xs. t5_is_open xs ≡ true) r.bytes open') in
     inr (record { within = r.within; more = subst (λ x. AreaGoesOn size (size * (progress_at size a.state.store n).blocks) x) (sym front) tt })
 
 -- the tag ends before its area
@@ -368,7 +379,8 @@ names_ready known slice space result wide many sized closed same front reach =
       most = sizes'.1;
     }
 
-pub later : {aim : Aim} (id : List ℕ) (size n : ℕ) (a b : LinkView) (known : Known) → IsReading aim id size a b known n → t5_is_open known.bytes.items ≡ false → (m : ℕ) × IsReading aim id size a b known (suc m)
+pub later : {aim : Aim} (id : List ℕ) (size n : ℕ) (a b : LinkView) (known : Known) → IsReading aim id size a b known n → t5_is_open known.bytes.items ≡ false
+    → (m : ℕ) × IsReading aim id size a b known (suc m)
 later id size (suc n) a b known r closed = (n, r)
 later id size zero a b known r closed =
     let none : size * 0 ≡ 0 = omega arith in

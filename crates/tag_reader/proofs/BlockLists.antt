@@ -98,7 +98,8 @@ many_single size single known many = many_free size single (length known / size)
 pub less_left : (size : ℕ) (store : List ℕ) (p : Progress) (a : Ask) → p.blocks ≤ length store → (IsMany a → p.single ≡ false) → left_of store (progress_behind size store p a) < left_of store p
 less_left size store p (One block) low free = by_flag p.single
   where
-    by_flag : (v : Bool) → (length store + 1 - (p.blocks + 1)) + (length store + 1 - (p.blocks + 1)) + (if v then 0 else 1) < (length store + 1 - p.blocks) + (length store + 1 - p.blocks) + (if v then 0 else 1)
+    by_flag : (v : Bool) → (length store + 1 - (p.blocks + 1)) + (length store + 1 - (p.blocks + 1)) + (if v then 0 else 1)
+        < (length store + 1 - p.blocks) + (length store + 1 - p.blocks) + (if v then 0 else 1)
     by_flag true = omega (arith, low)
     by_flag false = omega (arith, low)
 less_left size store p (Many block more) low free = by_end (nat_le (blocks_in size store) (block + more))

@@ -1,5 +1,6 @@
 -- A Type 5 tag is asked for several blocks at once as seldom as 256 bytes an answer allow.
-use Rattle.std.proofs.Common.{◌≡◌, ℕ, zero, suc, ◌+◌, ◌-◌, ◌*◌, ◌/◌, ◌%◌, ◌<◌, ◌≤◌, inl, inr, ◌⊎◌, List, [], ◌∷◌, ◌++◌, length, take, drop, Bool, true, false, nat_le, nat_lt, if◌then◌else◌, append-nil, refl, sym, ◌∙◌, ap, subst, arith}
+use Rattle.std.proofs.Common.{◌≡◌, ℕ, zero, suc, ◌+◌, ◌-◌, ◌*◌, ◌/◌, ◌%◌, ◌<◌, ◌≤◌, inl, inr, ◌⊎◌, List, [], ◌∷◌, ◌++◌, length, take, drop, Bool, true, false, nat_le, nat_lt, if◌then◌else◌}
+use Rattle.std.proofs.Common.{append-nil, refl, sym, ◌∙◌, ap, subst, arith}
 use Rattle.std.specs.Prelude.{min, not, ◌&&◌, map, Result, Ok, Err}
 use Rattle.std.specs.Int.{div_ceil}
 use Rattle.std.proofs.lemmas.Bool.{cases_lt, cases_Bool, ltb-true, lt-leb, and_parts}
@@ -65,7 +66,8 @@ several_by size single block (Ok (Ready space wide many)) is = elim (cases_Bool 
       })
 ]
 
-several_at : (size : ℕ) (store : List ℕ) (p : Progress) → 1 ≤ size → size * p.blocks ≤ length store → IsMany (ask_at size store p) → IsSeveral size p.blocks (t5_front (known_at size store p)) (ask_at size store p)
+several_at : (size : ℕ) (store : List ℕ) (p : Progress) → 1 ≤ size → size * p.blocks ≤ length store → IsMany (ask_at size store p)
+    → IsSeveral size p.blocks (t5_front (known_at size store p)) (ask_at size store p)
 several_at size store p some within is =
     subst (λ b. IsSeveral size b (t5_front (known_at size store p)) (ask_at size store p)) (next_block size store p some within)
     (several_by size p.single (length (known_at size store p) / size) (t5_front (known_at size store p)) is)
@@ -190,8 +192,10 @@ turn_by id size store n more is next =
     ]
 
 -- the last blocks of the area
-last_turn : (id : List ℕ) (size : ℕ) (store : List ℕ) (n more : ℕ) (space : Space) (wide many : Bool) → 1 ≤ size → t5_front (known_at size store (progress_at size store n)) ≡ Ok (Ready space wide many) →
-    (progress_at size store n).blocks + (more + 1) ≡ blocks_below size space.end → (progress_at size store (suc n)).blocks ≡ (progress_at size store n).blocks + (more + 1) → IsOver id size store (suc n)
+last_turn : (id : List ℕ) (size : ℕ) (store : List ℕ) (n more : ℕ) (space : Space) (wide many : Bool) → 1 ≤ size
+    → t5_front (known_at size store (progress_at size store n)) ≡ Ok (Ready space wide many) →
+    (progress_at size store n).blocks + (more + 1) ≡ blocks_below size space.end → (progress_at size store (suc n)).blocks ≡ (progress_at size store n).blocks + (more + 1)
+    → IsOver id size store (suc n)
 last_turn id size store n more space wide many some ready last blocks = inr (inr none)
   where
     none : IsSurveyed (T5 id) size store (suc n) → ⊥
@@ -333,4 +337,5 @@ asked_once size store (suc n) none =
 pub asks_listed : (id : List ℕ) (size : ℕ) (store : List ℕ) (n : ℕ) → first (T5 id) size store n ≡ map (λ a. ask_frame id a) (first_asks size store n)
 asks_listed id size store zero = refl
 asks_listed id size store (suc n) =
-    ap (λ xs. xs ++ command (T5 id) size store n ∷ []) (asks_listed id size store n) ∙ sym (map-append (λ a. ask_frame id a) (first_asks size store n) (ask_at size store (progress_at size store n) ∷ []))
+    ap (λ xs. xs ++ command (T5 id) size store n ∷ []) (asks_listed id size store n)
+    ∙ sym (map-append (λ a. ask_frame id a) (first_asks size store n) (ask_at size store (progress_at size store n) ∷ []))

@@ -1,5 +1,6 @@
 -- A reading of a Type 5 tag under way: what the tag answers, and how far each answer brings it.
-use Rattle.std.proofs.Common.{◌≡◌, ℕ, zero, suc, ◌+◌, ◌-◌, ◌*◌, ◌/◌, ◌%◌, ◌<◌, ◌≤◌, inl, inr, ◌⊎◌, List, [], ◌∷◌, ◌++◌, length, take, drop, Bool, true, false, not, nat_le, if◌then◌else◌, append_assoc, refl, sym, ◌∙◌, ap, subst, arith}
+use Rattle.std.proofs.Common.{◌≡◌, ℕ, zero, suc, ◌+◌, ◌-◌, ◌*◌, ◌/◌, ◌%◌, ◌<◌, ◌≤◌, inl, inr, ◌⊎◌, List, [], ◌∷◌, ◌++◌, length, take, drop, Bool, true, false, not, nat_le, if◌then◌else◌, append_assoc}
+use Rattle.std.proofs.Common.{refl, sym, ◌∙◌, ap, subst, arith}
 use Rattle.std.specs.Prelude.{◌&&◌, ◌==◌, nat_lt, Option, Some, Result, Ok, Err}
 use Rattle.std.proofs.lemmas.Bool.{cases_Bool, cases_lt, leb-true, leb-false, le-leb}
 use Rattle.std.proofs.lemmas.List.{length-take-le}
@@ -63,8 +64,14 @@ record Turns (t : T5State) (a : Ask) (f : Signal) : Type 0 where
 
 turns : (t : T5State) (a : Ask) → IsT5Shape t → IsSmall t.size a → Turns t a (ask_frame t.id a)
 turns t (One block) is small = elim (cases_Bool (nat_lt block 256)) [
-  | inl short ↦ rw short (record { answer = ap (λ r. sent r.answer) (read_turns t is block) ∙ one_told (out_of_round t) block; store = ap (λ r. r.after.store) (read_turns t is block) ∙ (read_leaves (out_of_round t) block).store })
-  | inr wide ↦ rw wide (record { answer = ap (λ r. sent r.answer) (read_wide_turns t is block) ∙ one_told (out_of_round t) block; store = ap (λ r. r.after.store) (read_wide_turns t is block) ∙ (read_leaves (out_of_round t) block).store })
+  | inl short ↦ rw short (record {
+    answer = ap (λ r. sent r.answer) (read_turns t is block) ∙ one_told (out_of_round t) block;
+    store = ap (λ r. r.after.store) (read_turns t is block) ∙ (read_leaves (out_of_round t) block).store;
+  })
+  | inr wide ↦ rw wide (record {
+    answer = ap (λ r. sent r.answer) (read_wide_turns t is block) ∙ one_told (out_of_round t) block;
+    store = ap (λ r. r.after.store) (read_wide_turns t is block) ∙ (read_leaves (out_of_round t) block).store;
+  })
 ]
 turns t (Many block more) is small = record {
   answer = ap (λ r. sent r.answer) (read_many_turns t is block more) ∙ many_told (out_of_round t) block more small;
@@ -81,7 +88,8 @@ may_code id (Many block more) = record { code = 35; rest = block ∷ more ∷ []
 pub may_ask : (id : List ℕ) (a : Ask) → MayAsk Type5 id (ask_frame id a)
 may_ask id a = may_code id a
 
-same_step : (r q : Option Signal) (s t : List ℕ) (st : TagState) → r ≡ q → s ≡ t → ◌≡◌ {A = TagStep} (record { answer = r; after = record st { store = s } }) (record { answer = q; after = record st { store = t } })
+same_step : (r q : Option Signal) (s t : List ℕ) (st : TagState) → r ≡ q → s ≡ t → ◌≡◌ {A = TagStep} (record { answer = r; after = record st { store = s } })
+    (record { answer = q; after = record st { store = t } })
 same_step r q s t st one two = rw (one, two) refl
 
 pub keeps_blocks : (id : List ℕ) (size : ℕ) (v : LinkView) (a : Ask) → IsTag (T5 id) size v → IsSmall size a →
@@ -110,7 +118,8 @@ tag_at id size zero a b known r = subst (λ v. IsTag (T5 id) size v) (sym r.reac
 tag_at id size (suc n) a b known r = tag_by id size a b r.tag r.reached.stays.leads.kind r.reached.stays.leads.identifier r.reached.stays.leads.step r.state
 
 -- how many bytes are known
-pub known_long : {aim : Aim} (id : List ℕ) (size n : ℕ) (a b : LinkView) (known : Known) → IsReading aim id size a b known n → length known.bytes.items ≡ size * (progress_at size a.state.store n).blocks
+pub known_long : {aim : Aim} (id : List ℕ) (size n : ℕ) (a b : LinkView) (known : Known) → IsReading aim id size a b known n
+    → length known.bytes.items ≡ size * (progress_at size a.state.store n).blocks
 known_long id size n a b known r = ap length r.bytes ∙ length-take-le (size * (progress_at size a.state.store n).blocks) a.state.store r.within
 
 -- what is asked is what the store's list has
@@ -119,7 +128,8 @@ first_ask single size known none =
     let zero' : length known / 0 ≡ length known / size = div-zero (length known) ∙ sym (ap (λ xs. length xs / size) none ∙ zero-div size) in
     rw none (let e : 0 / 0 ≡ 0 / size = div-zero 0 ∙ sym (zero-div size) in ap (λ b. One b) e)
 
-pub asks_is : {aim : Aim} (id : List ℕ) (size n : ℕ) (a b : LinkView) (known : Known) → IsReading aim id size a b known n → next_ask known.size known.single known.bytes.items ≡ ask_at size a.state.store (progress_at size a.state.store n)
+pub asks_is : {aim : Aim} (id : List ℕ) (size n : ℕ) (a b : LinkView) (known : Known) → IsReading aim id size a b known n
+    → next_ask known.size known.single known.bytes.items ≡ ask_at size a.state.store (progress_at size a.state.store n)
 asks_is id size zero a b known r =
     let none : size * 0 ≡ 0 = omega arith in
     let empty : known.bytes.items ≡ [] = r.bytes ∙ ap (λ m. take m a.state.store) none in
@@ -168,7 +178,8 @@ asks_from size store p is within =
 due_after : (aim : Aim) (id : List ℕ) (size n : ℕ) (store : List ℕ) → AreDueFor aim (T5 id) size store n → IsDueFor aim (T5 id) size store n → AreDueFor aim (T5 id) size store (suc n)
 due_after aim id size n store before here = (let e : n + 1 ≡ suc n = omega arith in subst (λ m. AreDueFor aim (T5 id) size store m) e (due_more_for aim (T5 id) size store n before here))
 
-pub reaches : (aim : Aim) (id : List ℕ) (size n : ℕ) (a b c : LinkView) → Reached aim (T5 id) size a b n → IsDueFor aim (T5 id) size a.state.store n → Answers (command (T5 id) size a.state.store n) b c → Asks aim (T5 id) size a c (suc n)
+pub reaches : (aim : Aim) (id : List ℕ) (size n : ℕ) (a b c : LinkView) → Reached aim (T5 id) size a b n → IsDueFor aim (T5 id) size a.state.store n
+    → Answers (command (T5 id) size a.state.store n) b c → Asks aim (T5 id) size a c (suc n)
 reaches aim id size zero a b c reached due answer =
     let here : Answers (command (T5 id) size a.state.store 0) a c = subst (λ v. Answers (command (T5 id) size a.state.store 0) v c) reached answer in
     record { stays = here.stays; before = here.before; goes_on = here.goes_on; each = λ k low. inl (omega arith); answered = here.answered; last = here.last; after = here.after }
@@ -184,7 +195,8 @@ reaches aim id size (suc n) a b c asks due answer = record {
 }
 
 -- or it fails
-pub fails : (aim : Aim) (id : List ℕ) (size n : ℕ) (a b c : LinkView) (e : ReadFault) → Reached aim (T5 id) size a b n → IsDueFor aim (T5 id) size a.state.store n → Fails (command (T5 id) size a.state.store n) b c e →
+pub fails : (aim : Aim) (id : List ℕ) (size n : ℕ) (a b c : LinkView) (e : ReadFault) → Reached aim (T5 id) size a b n → IsDueFor aim (T5 id) size a.state.store n
+    → Fails (command (T5 id) size a.state.store n) b c e →
     Reads aim (T5 id) size a c [] (Err e)
 fails aim id size zero a b c e reached due f = ends_first aim (T5 id) size a c [] e (subst (λ v. Fails (command (T5 id) size a.state.store 0) v c e) reached f)
 fails aim id size (suc n) a b c e asks due f = ends_asks aim (T5 id) size a b c [] (suc n) e asks due f
@@ -235,7 +247,8 @@ many_learned size store p b more place low =
       long = length_blocks size store b (more + 1) (omega (arith, low));
     }
 
-pub learned : (id content : List ℕ) (r : Signal) (size : ℕ) (store : List ℕ) (p : Progress) (a : Ask) → IsFrom size p.blocks a → HasContent (T5 id) r content → r ≡ t5.answer_frame (ask_answer size store a) →
+pub learned : (id content : List ℕ) (r : Signal) (size : ℕ) (store : List ℕ) (p : Progress) (a : Ask) → IsFrom size p.blocks a → HasContent (T5 id) r content
+    → r ≡ t5.answer_frame (ask_answer size store a) →
     Learned size store p (progress_behind size store p a) a content
 learned id content r size store p (One b) from is e = by_end (nat_le (blocks_in size store) b) refl e
   where
@@ -310,17 +323,21 @@ blocks_fit (suc size) a p some same = same
 
 -- what this tag brings is as long as it was asked for
 content_of : (size : ℕ) (store : List ℕ) (a : Ask) → IsT5Store size store → IsSmall size a →
-    ((code : ℕ) × (ask_answer size store a ≡ t5_says.Error code)) ⊎ ((content : List ℕ) × (ask_answer size store a ≡ t5_says.Content (record { items = content })) × (length content ≡ size * ask_count a))
+    ((code : ℕ) × (ask_answer size store a ≡ t5_says.Error code)) ⊎ ((content : List ℕ) × (ask_answer size store a ≡ t5_says.Content (record { items = content }))
+    × (length content ≡ size * ask_count a))
 content_of size store (One b) is small = by_end (nat_le (blocks_in size store) b) refl
   where
     by_end : (v : Bool) → nat_le (blocks_in size store) b ≡ v → ((code : ℕ) × ((if v then t5_says.Error no_block else t5_says.Content (record { items = block_of size store b })) ≡ t5_says.Error code))
-        ⊎ ((content : List ℕ) × ((if v then t5_says.Error no_block else t5_says.Content (record { items = block_of size store b })) ≡ t5_says.Content (record { items = content })) × (length content ≡ size * 1))
+        ⊎ ((content : List ℕ) × ((if v then t5_says.Error no_block else t5_says.Content (record { items = block_of size store b })) ≡ t5_says.Content (record { items = content }))
+        × (length content ≡ size * 1))
     by_end true past = inl (no_block, refl)
     by_end false low = inr (block_of size store b, refl, length_block size store b (leb-false (blocks_in size store) b low) ∙ (let e : size ≡ size * 1 = omega arith in e))
 content_of size store (Many b more) is small = by_end (nat_le (blocks_in size store) (b + more)) refl
   where
-    by_end : (v : Bool) → nat_le (blocks_in size store) (b + more) ≡ v → ((code : ℕ) × ((if v then t5_says.Error no_block else t5_says.Content (record { items = blocks_of size store b (more + 1) })) ≡ t5_says.Error code))
-        ⊎ ((content : List ℕ) × ((if v then t5_says.Error no_block else t5_says.Content (record { items = blocks_of size store b (more + 1) })) ≡ t5_says.Content (record { items = content })) × (length content ≡ size * (more + 1)))
+    by_end : (v : Bool) → nat_le (blocks_in size store) (b + more) ≡ v
+        → ((code : ℕ) × ((if v then t5_says.Error no_block else t5_says.Content (record { items = blocks_of size store b (more + 1) })) ≡ t5_says.Error code))
+        ⊎ ((content : List ℕ) × ((if v then t5_says.Error no_block else t5_says.Content (record { items = blocks_of size store b (more + 1) })) ≡ t5_says.Content (record { items = content }))
+        × (length content ≡ size * (more + 1)))
     by_end true past = inl (no_block, refl)
     by_end false low = inr (blocks_of size store b (more + 1), refl, length_blocks size store b (more + 1) (let within = leb-false (blocks_in size store) (b + more) low in omega (arith, within)))
 
@@ -344,8 +361,10 @@ first_long size (suc n) store content long is =
     (let facts = sizes size store is in blocks_fit size (ask_at size store (progress_at size store (suc n))) content (omega (arith, facts.least)) long)
 
 pub no_fault : (id : List ℕ) (size n : ℕ) (store : List ℕ) (a : Ask) (known r' : ℕ) (r : Signal) (e : ReadFault) → IsT5Store size store → size * (progress_at size store n).blocks ≤ length store →
-    a ≡ ask_at size store (progress_at size store n) → known ≡ size_at size n → r ≡ t5.answer_frame (ask_answer size store (ask_at size store (progress_at size store n))) → TellsBlocks id a known r (Err e) → ⊥
-no_fault id size n store a known r' r e is within same known_is answer tells = by_fault e (subst (λ k. TellsBlocks id (ask_at size store (progress_at size store n)) k r (Err e)) known_is (subst (λ x. TellsBlocks id x known r (Err e)) same tells))
+    a ≡ ask_at size store (progress_at size store n) → known ≡ size_at size n → r ≡ t5.answer_frame (ask_answer size store (ask_at size store (progress_at size store n)))
+    → TellsBlocks id a known r (Err e) → ⊥
+no_fault id size n store a known r' r e is within same known_is answer tells = by_fault e
+    (subst (λ k. TellsBlocks id (ask_at size store (progress_at size store n)) k r (Err e)) known_is (subst (λ x. TellsBlocks id x known r (Err e)) same tells))
   where
     by_fault : (f : ReadFault) → TellsBlocks id (ask_at size store (progress_at size store n)) (size_at size n) r (Err f) → ⊥
     by_fault fault.Protocol told = elim (content_of size store (ask_at size store (progress_at size store n)) is (asks_from size store (progress_at size store n) is within).small) [
@@ -398,7 +417,8 @@ first_size_is size (suc n) store content new is long e =
     rw some at e
 
 -- what it brings is known then
-pub learns_next : (aim : Aim) (id : List ℕ) (size n : ℕ) (a b c : LinkView) (known new : Known) (x : Ask) (r : Signal) (content : List ℕ) → IsReading aim id size a b known n → IsDueFor aim (T5 id) size a.state.store n →
+pub learns_next : (aim : Aim) (id : List ℕ) (size n : ℕ) (a b c : LinkView) (known new : Known) (x : Ask) (r : Signal) (content : List ℕ) → IsReading aim id size a b known n
+    → IsDueFor aim (T5 id) size a.state.store n →
     x ≡ ask_at size a.state.store (progress_at size a.state.store n) → r ≡ t5.answer_frame (ask_answer size a.state.store (ask_at size a.state.store (progress_at size a.state.store n))) →
     Answers (command (T5 id) size a.state.store n) b c → c.state ≡ b.state → HasContent (T5 id) r content × IsBlocks known.size x content →
     new.size ≡ (if known.size == 0 then length content else known.size) → new.single ≡ known.single → new.bytes.items ≡ known.bytes.items ++ content → IsReading aim id size a c new (suc n)
@@ -468,10 +488,12 @@ ended_next aim id size n a b c known x r reading due same answer answers state t
     }
   where
     past : length a.state.store ≡ size * (progress_at size a.state.store n).blocks →
-        progress_at size a.state.store (suc n) ≡ record (progress_at size a.state.store n) { blocks = (progress_at size a.state.store n).blocks + 1 } → IsDueFor aim (T5 id) size a.state.store (suc n) → ⊥
+        progress_at size a.state.store (suc n) ≡ record (progress_at size a.state.store n) { blocks = (progress_at size a.state.store n).blocks + 1 } → IsDueFor aim (T5 id) size a.state.store (suc n)
+        → ⊥
     past end behind (inl first) = omega arith
     past end behind (inr due') =
         let facts = sizes size a.state.store reading.tag.store in
-        let within : size * ((progress_at size a.state.store n).blocks + 1) ≤ length a.state.store = subst (λ q. size * q.blocks ≤ length a.state.store) behind (left_within aim id size a.state.store (suc n) due') in
+        let within : size * ((progress_at size a.state.store n).blocks + 1) ≤ length a.state.store =
+        subst (λ q. size * q.blocks ≤ length a.state.store) behind (left_within aim id size a.state.store (suc n) due') in
         let next : size * ((progress_at size a.state.store n).blocks + 1) ≡ size * (progress_at size a.state.store n).blocks + size = omega arith in
         omega (arith, within, next, end, facts.least)

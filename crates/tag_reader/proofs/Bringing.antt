@@ -16,7 +16,8 @@ use Rattle.t5t_tag.specs.Step.{no_block}
 use Rattle.tag_reader.specs.declared.ask.Ask.{Ask}
 use Rattle.tag_reader.specs.declared.ask.Ask.TheVariants.{One, Many}
 use Rattle.tag_reader.specs.Blocks.{IsOne, IsMany}
-use Rattle.tag_reader.specs.Heard.{ask_behind, BringsPiece, EndsTag, IsLast, next_command, asked_for, HasContent, IsPiece, Brings, Refuses, IsOdd, IsBroughtBy, tag_after, IsBrought, IsStopped, IsFaultBy}
+use Rattle.tag_reader.specs.Heard.{ask_behind, BringsPiece, EndsTag, IsLast, next_command, asked_for, HasContent, IsPiece, Brings, Refuses, IsOdd, IsBroughtBy, tag_after, IsBrought, IsStopped}
+use Rattle.tag_reader.specs.Heard.{IsFaultBy}
 use Rattle.tag_reader.specs.HeardSteps.{HasNoForm, Went, Under}
 use Rattle.tag_reader.specs.SurveyHeard.{surveyed_by, IsLeftBy}
 use Rattle.tag_reader.proofs.Links.{began, began_by}
@@ -95,7 +96,8 @@ under_stops how a b c ps f r u e answer = record {
 }
 
 -- what it leaves
-pub under_left : (how : How) (a b c : LinkView) (ps : List (List ℕ)) (f r : Signal) → Under how a b ps → f ≡ next_command how ps → Obeys b c f → IsAnswer b c f r → IsLeftBy a c (surveyed_by how ps true)
+pub under_left : (how : How) (a b c : LinkView) (ps : List (List ℕ)) (f r : Signal) → Under how a b ps → f ≡ next_command how ps → Obeys b c f → IsAnswer b c f r
+    → IsLeftBy a c (surveyed_by how ps true)
 under_left how a b c ps f r u e obeys answer = record {
   kind = obeys.leads.kind ∙ u.kind;
   identifier = obeys.leads.identifier ∙ u.identifier;

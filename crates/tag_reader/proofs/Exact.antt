@@ -183,4 +183,5 @@ pub tells_refused : (how : How) (a b : LinkView) (code : ℕ) (result : Result F
 tells_refused how a b code result told = (λ e. subst (λ r. IsToldBy how a b r) e told, λ is. exactly_refused how a b code result told is)
 
 pub tells_protocol : (how : How) (a b : LinkView) (result : Result Found ReadFault) → IsToldBy how a b result → TellsExactly how a b result fault.Protocol
-tells_protocol how a b result told = (λ e. subst (λ r. IsToldBy how a b r) e told, λ is. elim is [ inl odd ↦ exactly_odd how a b result told odd | inr ended ↦ exactly_over how a b ask.Protocol result told ended.ends'.0 ])
+tells_protocol how a b result told =
+    (λ e. subst (λ r. IsToldBy how a b r) e told, λ is. elim is [ inl odd ↦ exactly_odd how a b result told odd | inr ended ↦ exactly_over how a b ask.Protocol result told ended.ends'.0 ])

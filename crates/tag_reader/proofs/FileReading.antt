@@ -1,5 +1,6 @@
 -- A reading of a Type 4 tag under way, and how it ends.
-use Rattle.std.proofs.Common.{◌≡◌, ℕ, zero, suc, ◌+◌, ◌-◌, ◌*◌, ◌/◌, ◌%◌, ◌<◌, ◌≤◌, min, inl, inr, true, false, nat_lt, if◌then◌else◌, List, [], ◌∷◌, ◌++◌, length, take, drop, refl, sym, ◌∙◌, ap, subst, append_assoc, arith}
+use Rattle.std.proofs.Common.{◌≡◌, ℕ, zero, suc, ◌+◌, ◌-◌, ◌*◌, ◌/◌, ◌%◌, ◌<◌, ◌≤◌, min, inl, inr, true, false, nat_lt, if◌then◌else◌, List, [], ◌∷◌, ◌++◌, length, take, drop, refl, sym, ◌∙◌, ap}
+use Rattle.std.proofs.Common.{subst, append_assoc, arith}
 use Rattle.std.specs.Prelude.{Result, Ok, Err}
 use Rattle.std.proofs.lemmas.List.{length-take, take_all, take-take, drop-take, drop-drop}
 use Rattle.std.proofs.Math.Seq.{take-add}
@@ -121,7 +122,8 @@ under_next aim size (suc n) a b c u due answer state =
     record { tag = u.tag; reached = asks_more aim size (suc n) a b c u.reached (inr due) answer; state = state }
 
 -- it wasn't
-pub under_fails : (aim : Aim) (size n : ℕ) (a b c : LinkView) (e : ReadFault) → IsUnder aim size a b n → IsNextFor aim T4 size a.state.store n → Fails (file_frame (file_command a.state.store n)) b c e →
+pub under_fails : (aim : Aim) (size n : ℕ) (a b c : LinkView) (e : ReadFault) → IsUnder aim size a b n → IsNextFor aim T4 size a.state.store n → Fails (file_frame (file_command a.state.store n)) b c e
+    →
     EndsBy aim size a c e
 under_fails aim size zero a b c e u due f = ends_first aim T4 size a c [] e (subst (λ v. Fails (command T4 size a.state.store 0) v c e) u.reached f)
 under_fails aim size (suc n) a b c e u due f = ends_asks aim T4 size a b c [] (suc n) e u.reached (inr due) f
@@ -202,7 +204,8 @@ pub too_long : {aim : Aim} (size : ℕ) (a b : LinkView) (map' : FileMap) → Is
     EndsBy aim size a b fault.BadTlv
 too_long {aim = aim} size a b map' u names long =
     under_told size 4 a b fault.BadTlv u none refl
-    (sym (file_is a.state.store map' names ∙ ap (λ v. if v then form.BadTlv else form.Message (message_in (file_in a.state.store))) (lt-ltb (map'.size - 2) (message_length (file_in a.state.store)) long)))
+    (sym (file_is a.state.store map' names ∙ ap (λ v. if v then form.BadTlv else form.Message (message_in (file_in a.state.store)))
+    (lt-ltb (map'.size - 2) (message_length (file_in a.state.store)) long)))
   where
     none : IsDueFor aim T4 size a.state.store 5 → ⊥
     none (inl e) = (omega arith)
@@ -301,7 +304,8 @@ all_pieces size a b c map' n most q k message is same count past h = record {
   count = suc (suc (suc (suc k)));
   under = h.under;
   no_more = none;
-  bytes = h.bytes ∙ take_all (most_asked a.state.store * k) (message_in (file_in a.state.store)) (omega (arith, high, is.length', length-take (message_length (file_in a.state.store)) (drop 2 (file_in a.state.store))));
+  bytes = h.bytes ∙ take_all (most_asked a.state.store * k) (message_in (file_in a.state.store))
+      (omega (arith, high, is.length', length-take (message_length (file_in a.state.store)) (drop 2 (file_in a.state.store))));
 }
   where
     high : n ≤ most_asked a.state.store * k

@@ -52,7 +52,8 @@ content_fits code store (suc (suc (suc (suc (suc k))))) is due =
     (omega (arith, length-drop (2 + most_asked store * k) (file_in store), due.left, due.fits, size, is.whole, facts.least))
 
 -- the container is read
-pub opens : (a b : LinkView) (application container head slice : List ℕ) (map' : FileMap) → Under T4 a b (application ∷ container ∷ head ∷ []) → slice ≡ head → Ok map' ≡ t4_container slice → Opened a b map'
+pub opens : (a b : LinkView) (application container head slice : List ℕ) (map' : FileMap) → Under T4 a b (application ∷ container ∷ head ∷ []) → slice ≡ head → Ok map' ≡ t4_container slice
+    → Opened a b map'
 opens a b application container head slice map' u same is = record {
   head = head;
   ps = application ∷ container ∷ head ∷ [];

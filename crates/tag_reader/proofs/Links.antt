@@ -51,7 +51,12 @@ ask_answers a b c r s after k obeys rises last answer = record {
 
 -- an answer that found no memory
 pub answer_lost : (c : Signal) (a b : LinkView) → Answers c a b → Fails c a b fault.Memory
-answer_lost c a b answer = record { stays = answer.stays; fault' = inl (refl, answer.goes_on.over); asked = inr (answer.answered, answer.last, answer.goes_on.over ∙ sym answer.before); calm = λ begun lit quiet. refl }
+answer_lost c a b answer = record {
+  stays = answer.stays;
+  fault' = inl (refl, answer.goes_on.over);
+  asked = inr (answer.answered, answer.last, answer.goes_on.over ∙ sym answer.before);
+  calm = λ begun lit quiet. refl;
+}
 
 -- what a call that fails says of the link: it wasn't over before, or the call changed nothing
 pub data Began (a b : LinkView) (e : AskFault) : Type 0 where

@@ -143,7 +143,8 @@ joined_more ps p = flat_map-append (λ x. x) ps (p ∷ []) ∙ ap (λ xs. joined
 
 four_more : (known p : List ℕ) (i : ℕ) → i + 3 < length known → four_bytes (known ++ p) i ≡ four_bytes known i
 four_more known p i low =
-    rw (get_or_append_left known p 0 i (omega arith), get_or_append_left known p 0 (i + 1) (omega arith), get_or_append_left known p 0 (i + 2) (omega arith), get_or_append_left known p 0 (i + 3) low) refl
+    rw (get_or_append_left known p 0 i (omega arith), get_or_append_left known p 0 (i + 1) (omega arith), get_or_append_left known p 0 (i + 2) (omega arith), get_or_append_left known p 0 (i + 3) low)
+    refl
 
 pub looks_more : (a b c : LinkView) (known known' : List ℕ) (space : Space) (n : ℕ) → (l : Looks a b known space n) → Gains a c l.ps known known' → Looks a c known' space (n + 1)
 looks_more a b c known known' space n l g = record {

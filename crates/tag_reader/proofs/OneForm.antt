@@ -26,7 +26,8 @@ use Rattle.tag_reader.proofs.Bringing.{brings_free, brings_ends}
 use Rattle.tag_reader.proofs.Exact.{two_brought, brought_stopped, two_stopped, ends_code, over_cut}
 
 -- the area of a Type 2 tag ends behind its start
-big_area : (x y z : Bool) (b : List ℕ) → IfOk (unless (if x then Some container.NotNdef else if y then Some container.Version else if z then Some container.NoRead else Some container.Sectors) (t2_space b)) IsArea
+big_area : (x y z : Bool) (b : List ℕ)
+    → IfOk (unless (if x then Some container.NotNdef else if y then Some container.Version else if z then Some container.NoRead else Some container.Sectors) (t2_space b)) IsArea
 big_area true y z b = tt
 big_area false true z b = tt
 big_area false false true b = tt

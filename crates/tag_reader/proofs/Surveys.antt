@@ -149,7 +149,8 @@ kept_first : (before : List (List ℕ)) (p : List ℕ) (size : ℕ) → first_si
 kept_first [] p size same = absurd (omega (arith, same))
 kept_first (q ∷ qs) p size same = same
 
-later_multiple : (id : List ℕ) (step : TagState → Signal → TagStep) (s : TagState) (before ps : List (List ℕ)) (size : ℕ) → first_size before ≡ suc size → IsBroughtBy (T5 id) step s before ps → Multiple (suc size) (length (joined ps))
+later_multiple : (id : List ℕ) (step : TagState → Signal → TagStep) (s : TagState) (before ps : List (List ℕ)) (size : ℕ) → first_size before ≡ suc size → IsBroughtBy (T5 id) step s before ps
+    → Multiple (suc size) (length (joined ps))
 later_multiple id step s before [] size same is = record { count = 0; is = omega arith }
 later_multiple id step s before (p ∷ ps) size same is =
     let rest = later_multiple id step (step s (next_command (T5 id) before)).after (before ++ p ∷ []) ps size (kept_first before p size same) is.3 in
@@ -160,14 +161,18 @@ later_multiple id step s before (p ∷ ps) size same is =
     one (inl brings) = record { count = ask_count (ask_behind before); is = subst (λ n. IsBlocks n (ask_behind before) p) same brings.piece }
     one (inr falls) = record { count = 0; is = ap length falls.none ∙ omega arith }
 
-pub whole_pieces : (id : List ℕ) (step : TagState → Signal → TagStep) (s : TagState) (ps : List (List ℕ)) → 0 < length ps → IsBroughtBy (T5 id) step s [] ps → (4 ≤ first_size ps) × Multiple (first_size ps) (length (joined ps))
+pub whole_pieces : (id : List ℕ) (step : TagState → Signal → TagStep) (s : TagState) (ps : List (List ℕ)) → 0 < length ps → IsBroughtBy (T5 id) step s [] ps
+    → (4 ≤ first_size ps) × Multiple (first_size ps) (length (joined ps))
 whole_pieces id step s [] some is = absurd (omega (arith, some))
 whole_pieces id step s (p ∷ ps) some is =
     let least : 4 ≤ length p = first_block p is.2 in
     let size : length p ≡ suc (length p - 1) = omega (arith, least) in
     let rest = later_multiple id step (step s (next_command (T5 id) [])).after (p ∷ []) ps (length p - 1) size is.3 in
-    let own : Multiple (length p) (length p) = record { count = 1; is = omega arith } in
-    (least, subst (Multiple (length p)) (sym (length-append p (joined ps))) (sum_multiple (length p) (length p) (length (joined ps)) own (subst (λ n. Multiple n (length (joined ps))) (sym size) rest)))
+    let own : Multiple (length p) (length p) = record { count = 1; is = omega arith } in (
+      least,
+      subst (Multiple (length p)) (sym (length-append p (joined ps))) (sum_multiple (length p) (length p) (length (joined ps)) own
+          (subst (λ n. Multiple n (length (joined ps))) (sym size) rest)),
+    )
 
 -- and their area ends where block numbers do
 most_named : (wide : Bool) → named_blocks wide ≤ 65536
@@ -219,7 +224,8 @@ module _ (how : How) (a b : LinkView) (size : ℕ) (known slice : List ℕ) (spa
   said_form w is = let on = known_on how e in subst (λ xs. TellsForm space xs w) (sym on.1 ∙ h.known') (is.form on.0)
 
   none_by : (k : How) (f : form.Form) (ended : Bool) → IsHeard k a b h.ps ended → area_heard k h.ps ended ≡ Ok space → HasContainer k known → form.IsForm space (joined h.ps) f → IsNone k a b f
-  none_by T2 f false heard area container is = inl (record { ps = h.ps; brought = heard.0; over = heard.1; says = record { some = h.some; whole = tt; form = subst (λ r. IsFormBy r (joined h.ps) f) (sym area) is } })
+  none_by T2 f false heard area container is =
+      inl (record { ps = h.ps; brought = heard.0; over = heard.1; says = record { some = h.some; whole = tt; form = subst (λ r. IsFormBy r (joined h.ps) f) (sym area) is } })
   none_by T2 f true heard area container is = absurd heard.2
   none_by T4 f false heard area container is = absurd (let no_area = area in cc)
   none_by T4 f true heard area container is = absurd heard.2
@@ -273,7 +279,8 @@ module _ (how : How) (a b : LinkView) (size : ℕ) (known slice : List ℕ) (spa
   ground_told (Err fault.Protocol) is = absurd is
 
 -- the ground that is heard of a Type 2 tag is low
-pub two_low : (a b : LinkView) (ps : List (List ℕ)) (ended : Bool) (known : List ℕ) (block : ℕ) (m : AreaMap) → IsHeard T2 a b ps ended → IsArea m.space → IsAreaHeard T2 ps ended known block m → length known ≤ 1024
+pub two_low : (a b : LinkView) (ps : List (List ℕ)) (ended : Bool) (known : List ℕ) (block : ℕ) (m : AreaMap) → IsHeard T2 a b ps ended → IsArea m.space → IsAreaHeard T2 ps ended known block m
+    → length known ≤ 1024
 two_low a b ps false known block m heard area is =
     let same : t2_space (four_bytes (joined ps) 12) ≡ m.space = t2_is (four_bytes (joined ps) 12) m.space is.area in
     let start : 16 ≡ m.space.start = ap (λ s. s.start) same in

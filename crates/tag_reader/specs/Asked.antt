@@ -1,5 +1,5 @@
--- What is asked of a tag, by the tag's store alone (NFC Forum Type 2, Type 4 and Type 5 Tag): of one that is read for its
--- message, and of one that is surveyed before a message is written.
+-- What is asked of a tag, by the tag's store alone (NFC Forum Type 2, Type 4 and Type 5 Tag): of one that is read for
+-- its message, and of one that is surveyed before a message is written.
 use Rattle.std.specs.Prelude.{◌≡◌, ℕ, ◌*◌, ◌<◌, ◌≤◌, ◌⊎◌, List, ◌++◌, length, take, Ok}
 use Rattle.nfc_base.specs.Signal.{Signal}
 use Rattle.tlv_area.specs.declared.space.Space.{Space}
@@ -35,8 +35,8 @@ IsNext T2 size store n = NeedsMore size store n
 IsNext T4 size store n = IsFileDue store n
 IsNext (T5 id) size store n = IsBlockDue size store n
 
--- The same where a writer asks. An area is read to its end or the tag's, whatever its TLVs are; of a file the container and the
--- length of the message, and no byte of it.
+-- The same where a writer asks. An area is read to its end or the tag's, whatever its TLVs are; of a file the container
+-- and the length of the message, and no byte of it.
 abbrev pub IsLeft : How → ℕ → List ℕ → ℕ → Type 0
 IsLeft T2 size store n = HasMore size store n
 IsLeft T4 size store n = IsFileDue store n × (n < 5)

@@ -21,13 +21,14 @@ abbrev pub last_of : How → ℕ → List ℕ → LinkView → ℕ → Option Si
 last_of how size store a zero = a.last
 last_of how size store a (suc n) = Some (command how size store n)
 
--- The commands answered between two views are the first `count` of what is asked. The last one that was asked is the last of
--- them, and then the link is over only where it was before; or it is the next that is asked.
+-- The commands answered between two views are the first `count` of what is asked. The last one that was asked is the
+-- last of them, and then the link is over only where it was before; or it is the next that is asked.
 pub record HasAskedFor (aim : Aim) (how : How) (size : ℕ) (store : List ℕ) (a b : LinkView) : Type 0 where
   pub count : ℕ
   pub each : AreDueFor aim how size store count
   pub answered : b.answered ≡ a.answered ++ first how size store count
-  pub last : ((b.last ≡ last_of how size store a count) × (b.over ≡ a.over)) ⊎ ((b.last ≡ Some (command how size store count)) × IsDueFor aim how size store count)
+  pub last : ((b.last ≡ last_of how size store a count) × (b.over ≡ a.over))
+      ⊎ ((b.last ≡ Some (command how size store count)) × IsDueFor aim how size store count)
 
 -- All that is asked was answered between two views, and the tag is what these commands leave.
 pub record HasAskedAllFor (aim : Aim) (how : How) (size : ℕ) (store : List ℕ) (a b : LinkView) : Type 0 where

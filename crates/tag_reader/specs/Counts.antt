@@ -1,5 +1,6 @@
 -- How few commands a reading or a survey of a Type 5 tag takes.
-use Rattle.std.specs.Prelude.{◌≡◌, ℕ, zero, suc, ◌+◌, ◌<◌, ◌≤◌, ◌/◌, ◌%◌, ◌⊎◌, Bool, true, false, List, [], ◌∷◌, ◌++◌, length, map, filter, slice_index}
+use Rattle.std.specs.Prelude.{◌≡◌, ℕ, zero, suc, ◌+◌, ◌<◌, ◌≤◌, ◌/◌, ◌%◌, ◌⊎◌, Bool, true, false, List, [], ◌∷◌, ◌++◌}
+use Rattle.std.specs.Prelude.{length, map, filter, slice_index}
 use Rattle.std.specs.List.{sum_by}
 use Rattle.std.specs.Int.{div_ceil}
 use Rattle.nfc_base.specs.TagLinks.{LinkView}
@@ -39,18 +40,21 @@ several asks = filter is_many asks
 abbrev pub blocks_asked : List Ask → ℕ
 blocks_asked asks = sum_by ask_count asks
 
--- Of the first n commands of a reading, which ask for these blocks, at most one is refused. Where none is, each block is asked
--- for once; and where bit 0 of byte 3 allows several at once too, blocks are asked for alone only until the container is whole,
--- and from block 256 on. Besides, several at once are asked for at most once for each 256 bytes, rounded up, of the blocks that
--- are asked for so.
+-- Of the first n commands of a reading, which ask for these blocks, at most one is refused. Where none is, each block
+-- is asked for once; and where bit 0 of byte 3 allows several at once too, blocks are asked for alone only until the
+-- container is whole, and from block 256 on. Besides, several at once are asked for at most once for each 256 bytes,
+-- rounded up, of the blocks that are asked for so.
 pub record IsFew (id : List ℕ) (size : ℕ) (store : List ℕ) (n : ℕ) : Type 0 where
   pub list : first (T5 id) size store n ≡ map (λ a. ask_frame id a) (first_asks size store n)
   pub refused : (j k : ℕ) → j < n → k < n → IsRefusedAt size store j → IsRefusedAt size store k → j ≡ k
-  pub once : ((k : ℕ) → k < n → IsRefusedAt size store k → ⊥) → blocks_asked (first_asks size store n) ≡ (progress_at size store n).blocks
+  pub once : ((k : ℕ) → k < n → IsRefusedAt size store k → ⊥)
+      → blocks_asked (first_asks size store n) ≡ (progress_at size store n).blocks
   pub singles : slice_index store 3 % 2 ≡ 1 → ((k : ℕ) → k < n → IsRefusedAt size store k → ⊥) →
       (k : ℕ) → k < n → IsOne (ask_at size store (progress_at size store k)) →
-      (t5_is_open (known_at size store (progress_at size store k)) ≡ true) ⊎ (short_numbers ≤ (progress_at size store k).blocks)
-  pub seldom : length (several (first_asks size store n)) ≤ div_ceil (blocks_asked (several (first_asks size store n))) (most_content / size)
+      (t5_is_open (known_at size store (progress_at size store k)) ≡ true)
+      ⊎ (short_numbers ≤ (progress_at size store k).blocks)
+  pub seldom : length (several (first_asks size store n))
+      ≤ div_ceil (blocks_asked (several (first_asks size store n))) (most_content / size)
 
 abbrev pub IsFewOf : How → ℕ → List ℕ → ℕ → Type 0
 IsFewOf T2 size store n = Unit {0}
@@ -59,4 +63,5 @@ IsFewOf (T5 id) size store n = IsFew id size store n
 
 -- whatever the number of commands that are answered
 abbrev pub AsksFew : Aim → How → LinkView → Type 0
-AsksFew aim how a = OfTag how a (λ size. (n : ℕ) → AreDueFor aim how size a.state.store n → IsFewOf how size a.state.store n)
+AsksFew aim how a = OfTag how a (λ size. (n : ℕ) → AreDueFor aim how size a.state.store n
+    → IsFewOf how size a.state.store n)

@@ -1,6 +1,7 @@
--- The Type 4 tag behind a link (NFC Forum Type 4 Tag; ISO/IEC 7816-4): its two files in the store that a link shows, what the
--- store holds, and which commands ask for its message, in their order.
-use Rattle.std.specs.Prelude.{◌≡◌, ℕ, zero, suc, ◌+◌, ◌-◌, ◌*◌, ◌<◌, ◌≤◌, min, nat_lt, if◌then◌else◌, List, length, take, drop, Result, Some, Ok, Err}
+-- The Type 4 tag behind a link (NFC Forum Type 4 Tag; ISO/IEC 7816-4): its two files in the store that a link shows,
+-- what the store holds, and which commands ask for its message, in their order.
+use Rattle.std.specs.Prelude.{◌≡◌, ℕ, zero, suc, ◌+◌, ◌-◌, ◌*◌, ◌<◌, ◌≤◌, min, nat_lt, if◌then◌else◌, List, length}
+use Rattle.std.specs.Prelude.{take, drop, Result, Some, Ok, Err}
 use Rattle.nfc_base.specs.Words.{word}
 use Rattle.nfc_base.specs.Signal.{Signal, whole_a}
 use Rattle.nfc_base.specs.TagLinks.{TagFile, NoFile, ContainerFile, NdefFile, TagState, TagStep}
@@ -45,7 +46,8 @@ file_form (Ok map') file = if nat_lt (map'.size - 2) (message_length file) then 
 abbrev pub t4_form : List ℕ → Form
 t4_form store = file_form (t4_container (container_in store)) (file_in store)
 
--- the most bytes that one read of the message asks for: no more than one command may, and than the container allows (MLe)
+-- the most bytes that one read of the message asks for: no more than one command may, and than the container allows
+-- (MLe)
 abbrev pub most_of : List ℕ → ℕ
 most_of container = min (most_read container) most_per_command
 
@@ -56,8 +58,8 @@ most_asked store = most_of (container_in store)
 abbrev pub piece_size : List ℕ → ℕ → ℕ
 piece_size store k = min (most_asked store) (message_length (file_in store) - most_asked store * k)
 
--- The k-th command, counted from 0: SELECT of the application and of the container, a read of the container, SELECT of the
--- NDEF file that it names, a read of the message's length, and then the reads of the message.
+-- The k-th command, counted from 0: SELECT of the application and of the container, a read of the container, SELECT of
+-- the NDEF file that it names, a read of the message's length, and then the reads of the message.
 abbrev pub file_command : List ℕ → ℕ → T4Command
 file_command store zero = SelectApplication
 file_command store (suc zero) = SelectFile container_id
@@ -102,7 +104,13 @@ current_file NdefFile = current.Ndef
 
 -- The tag behind a link, of which the link's state shows the store, the application and the current file.
 abbrev pub t4_memory : ℕ → TagState → T4State
-t4_memory code s = record { code = code; container = container_in s.store; file = file_in s.store; selected = s.selected; current = current_file s.file }
+t4_memory code s = record {
+  code = code;
+  container = container_in s.store;
+  file = file_in s.store;
+  selected = s.selected;
+  current = current_file s.file;
+}
 
 abbrev pub shown : T4State → TagState
 shown t = record { store = store_of t; selected = t.selected; file = shown_file t.current }

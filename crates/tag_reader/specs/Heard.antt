@@ -1,6 +1,8 @@
--- What the answers of a tag tell a reader, whatever the tag does (NFC Forum Type 2, Type 4 and Type 5 Tag): the pieces that
--- they bring, one a command, which command follows them, and what they say of the message.
-use Rattle.std.specs.Prelude.{◌≡◌, ℕ, zero, suc, ◌+◌, ◌-◌, ◌*◌, ◌<◌, ◌≤◌, ◌⊎◌, ◌↔◌, ◌==◌, ◌&&◌, nat_eq, nat_le, slice_index, if◌then◌else◌, min, false, List, [], ◌∷◌, ◌++◌, length, Bool, Option, Some, None, Result, Ok, Err, IsErrOf, IsOkAnd}
+-- What the answers of a tag tell a reader, whatever the tag does (NFC Forum Type 2, Type 4 and Type 5 Tag): the pieces
+-- that they bring, one a command, which command follows them, and what they say of the message.
+use Rattle.std.specs.Prelude.{◌≡◌, ℕ, zero, suc, ◌+◌, ◌-◌, ◌*◌, ◌<◌, ◌≤◌, ◌⊎◌, ◌↔◌, ◌==◌, ◌&&◌, nat_eq, nat_le}
+use Rattle.std.specs.Prelude.{slice_index, if◌then◌else◌, min, false, List, [], ◌∷◌, ◌++◌, length, Bool, Option, Some}
+use Rattle.std.specs.Prelude.{None, Result, Ok, Err, IsErrOf, IsOkAnd}
 use Rattle.std.specs.Cmp.Lexicographic.{pointwise}
 use Rattle.std.specs.List.{flat_map, list_any}
 use Rattle.nfc_base.specs.Signal.{Signal, whole_a, is_nfc_a, is_whole_a, last_byte}
@@ -12,7 +14,8 @@ use Rattle.t2t_tag.specs.declared.answer.T2Answer.TheVariants as t2_says
 use Rattle.t4t_tag.specs.Store.{file_id, container_id}
 use Rattle.t4t_tag.specs.Step.{done}
 use Rattle.t4t_tag.specs.declared.command.T4Command.{T4Command}
-use Rattle.t4t_tag.specs.declared.command.T4Command.TheVariants.{SelectApplication, SelectFile, ReadBinary, UpdateBinary}
+use Rattle.t4t_tag.specs.declared.command.T4Command.TheVariants.{SelectApplication, SelectFile, ReadBinary}
+use Rattle.t4t_tag.specs.declared.command.T4Command.TheVariants.{UpdateBinary}
 use Rattle.t5t_tag.specs.Spelling as t5
 use Rattle.t5t_tag.specs.Reading.{spelled_answer}
 use Rattle.t5t_tag.specs.Step.{no_block}
@@ -44,8 +47,8 @@ pub record IsOf (how : How) (v : LinkView) : Type 0 where
   pub named : IsNamed how v.identifier
 
 -- The command of a Type 4 tag that follows some pieces: SELECT of the application and of the container, a read of the
--- container, SELECT of the NDEF file that it names, a read of the message's length, and then reads of the message, each of
--- as many bytes as a read may ask for, or of those that are left.
+-- container, SELECT of the NDEF file that it names, a read of the message's length, and then reads of the message, each
+-- of as many bytes as a read may ask for, or of those that are left.
 abbrev pub file_next : List (List ℕ) → T4Command
 file_next [] = SelectApplication
 file_next (a ∷ []) = SelectFile container_id
@@ -53,7 +56,8 @@ file_next (a ∷ b ∷ []) = ReadBinary 0 15
 file_next (a ∷ b ∷ head ∷ []) = SelectFile (file_id head)
 file_next (a ∷ b ∷ head ∷ d ∷ []) = ReadBinary 0 2
 file_next (a ∷ b ∷ head ∷ d ∷ size ∷ parts) =
-    ReadBinary (2 + most_of head * length parts) (min (most_of head) (message_length size - most_of head * length parts))
+    ReadBinary (2 + most_of head * length parts) (min (most_of head)
+    (message_length size - most_of head * length parts))
 
 -- the bytes of the pieces, and how many the first has
 abbrev pub joined : List (List ℕ) → List ℕ
@@ -82,7 +86,8 @@ abbrev pub asked_for : How → List (List ℕ) → List (List ℕ) → List Sign
 asked_for how before [] = []
 asked_for how before (p ∷ ps) = next_command how before ∷ asked_for how (before ++ p ∷ []) ps
 
--- A READ BINARY brings as many bytes as it asks for, SELECT of a file none, SELECT of the application what the tag likes.
+-- A READ BINARY brings as many bytes as it asks for, SELECT of a file none, SELECT of the application what the tag
+-- likes.
 abbrev pub HasSize : T4Command → List ℕ → Type 0
 HasSize SelectApplication p = length p ≤ 256
 HasSize (SelectFile id) p = length p ≡ 0
@@ -111,8 +116,8 @@ pub record BringsPiece (how : How) (ps : List (List ℕ)) (r : Signal) (p : List
   pub content : HasContent how r p
   pub piece : IsPiece how ps p
 
--- Whatever the error by which a Type 5 tag refuses several blocks at once, it is no end of a reading: each block is then asked
--- for alone.
+-- Whatever the error by which a Type 5 tag refuses several blocks at once, it is no end of a reading: each block is
+-- then asked for alone.
 pub record FallsBack (ps : List (List ℕ)) (r : Signal) (p : List ℕ) : Type 0 where
   pub many : IsMany (ask_behind ps)
   pub code : ℕ
@@ -125,8 +130,8 @@ Brings T2 ps r p = BringsPiece T2 ps r p
 Brings T4 ps r p = BringsPiece T4 ps r p
 Brings (T5 id) ps r p = BringsPiece (T5 id) ps r p ⊎ FallsBack ps r p
 
--- The code by which an answer refuses its command, where it does: 0 for the four bits 0h of a Type 2 tag, the status bytes that
--- end the answer of a Type 4 tag, unless they are 9000h, and the code of an error of a Type 5 tag.
+-- The code by which an answer refuses its command, where it does: 0 for the four bits 0h of a Type 2 tag, the status
+-- bytes that end the answer of a Type 4 tag, unless they are 9000h, and the code of an error of a Type 5 tag.
 abbrev pub t4_code : ℕ → ℕ → Option ℕ
 t4_code high low = if pointwise nat_eq (high ∷ low ∷ []) done then None else Some (high * 256 + low)
 
@@ -137,7 +142,8 @@ t5_code answer = None
 abbrev pub refusal_of : How → Signal → Option ℕ
 refusal_of T2 r = if is_nfc_a r.tech && (pointwise nat_eq r.bytes (t2.nak ∷ []) && (r.tail == 4)) then Some 0 else None
 refusal_of T4 r =
-    if is_whole_a r && nat_le 2 (length r.bytes) then t4_code (slice_index r.bytes (length r.bytes - 2)) (last_byte r.bytes)
+    if is_whole_a r && nat_le 2 (length r.bytes) then t4_code (slice_index r.bytes (length r.bytes - 2))
+    (last_byte r.bytes)
     else None
 refusal_of (T5 id) r = t5_code (spelled_answer r)
 
@@ -184,8 +190,8 @@ pub record IsStopped (how : How) (a b : LinkView) (ps : List (List ℕ)) (r : Si
   pub answered : b.answered ≡ a.answered ++ (asked_for how [] ps ++ next_command how ps ∷ [])
   pub over : b.over ≡ None
 
--- The pieces of a Type 4 tag whose container is whole, and those of one whose container names a file with a message of n
--- bytes; the parts are of the message.
+-- The pieces of a Type 4 tag whose container is whole, and those of one whose container names a file with a message of
+-- n bytes; the parts are of the message.
 pub record HasHead (ps : List (List ℕ)) (head : List ℕ) : Type 0 where
   pub application : List ℕ
   pub container : List ℕ
@@ -208,7 +214,8 @@ pub record IsMessage (n : ℕ) (parts : List (List ℕ)) (message : List ℕ) : 
 
 abbrev pub FileSays : List (List ℕ) → Form → Type 0
 FileSays ps (Faulty f) = (head : List ℕ) × HasHead ps head × (t4_container head ≡ Err f)
-FileSays ps (Message m) = (map' : FileMap) × (n : ℕ) × (parts : List (List ℕ)) × HasFile ps map' n parts × (n ≤ map'.size - 2) × IsMessage n parts m
+FileSays ps (Message m) = (map' : FileMap) × (n : ℕ) × (parts : List (List ℕ)) × HasFile ps map' n parts
+    × (n ≤ map'.size - 2) × IsMessage n parts m
 FileSays ps NoMessageTlv = ⊥
 FileSays ps BadTlv = (map' : FileMap) × (n : ℕ) × HasFile ps map' n [] × (map'.size - 2 < n)
 
@@ -233,7 +240,8 @@ Says (T5 id) ps f = AreaSays (T5 id) ps f
 -- where the message lies
 abbrev pub SaysSite : How → List (List ℕ) → Site → Bool → Type 0
 SaysSite T2 ps site writable = IsSite T2 (first_size ps) (joined ps) site writable
-SaysSite T4 ps site writable = (map' : FileMap) × (n : ℕ) × (parts : List (List ℕ)) × HasFile ps map' n parts × (site ≡ File map') × (writable ≡ map'.writable)
+SaysSite T4 ps site writable = (map' : FileMap) × (n : ℕ) × (parts : List (List ℕ)) × HasFile ps map' n parts
+    × (site ≡ File map') × (writable ≡ map'.writable)
 SaysSite (T5 id) ps site writable = IsSite (T5 id) (first_size ps) (joined ps) site writable
 
 -- A reading found this message: all that was answered brought pieces, and they say it.
@@ -277,8 +285,8 @@ pub record IsOddly (how : How) (a b : LinkView) : Type 0 where
   pub stopped : IsStopped how a b ps r
   pub odd : IsOdd how ps r
 
--- The link ended it, or the reader's own want of memory: all that was answered brought pieces. Where the link is over and wasn't
--- before, the command that follows them was asked, and it was the last.
+-- The link ended it, or the reader's own want of memory: all that was answered brought pieces. Where the link is over
+-- and wasn't before, the command that follows them was asked, and it was the last.
 pub record IsEndedBy (how : How) (a b : LinkView) (ends : Type 0) : Type 0 where
   pub ps : List (List ℕ)
   pub brought : IsBrought how a b ps

@@ -1,5 +1,6 @@
 -- What the parts of a reading say, whatever the tag does. No public contract speaks of these.
-use Rattle.std.specs.Prelude.{◌≡◌, ℕ, ◌+◌, ◌-◌, ◌*◌, ◌<◌, ◌≤◌, ◌⊎◌, min, List, [], ◌∷◌, ◌++◌, length, false, None, Result, Ok, Err}
+use Rattle.std.specs.Prelude.{◌≡◌, ℕ, ◌+◌, ◌-◌, ◌*◌, ◌<◌, ◌≤◌, ◌⊎◌, min, List, [], ◌∷◌, ◌++◌, length, false, None}
+use Rattle.std.specs.Prelude.{Result, Ok, Err}
 use Rattle.nfc_base.specs.Signal.{Signal}
 use Rattle.nfc_base.specs.TagLinks.{LinkView, Rises}
 use Rattle.tlv_area.specs.declared.container.FileMap.{FileMap}
@@ -15,7 +16,8 @@ use Rattle.tag_reader.specs.declared.how.How.TheVariants.{T2, T4}
 use Rattle.tag_reader.specs.declared.fault.ReadFault.{ReadFault}
 use Rattle.tag_reader.specs.declared.fault.ReadFault.TheVariants as fault
 use Rattle.tag_reader.specs.Kinds.{area_of}
-use Rattle.tag_reader.specs.Heard.{HasContent, Refuses, IsBrought, IsFaultBy, IsMessage, HasContainer, HasHead, HasFile, tag_after, joined, first_size}
+use Rattle.tag_reader.specs.Heard.{HasContent, Refuses, IsBrought, IsFaultBy, IsMessage, HasContainer, HasHead, HasFile}
+use Rattle.tag_reader.specs.Heard.{tag_after, joined, first_size}
 
 -- an answer of no form that a command is answered by
 pub record HasNoForm (how : How) (r : Signal) : Type 0 where

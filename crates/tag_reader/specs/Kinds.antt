@@ -1,6 +1,8 @@
--- The kinds of tags that a reader knows (NFC Forum Type 2, Type 4 and Type 5 Tag): which stores they have, which area a store
--- names and what it holds, and which commands ask for its bytes in their order. Files.antt says it of a Type 4 tag.
-use Rattle.std.specs.Prelude.{◌≡◌, ℕ, zero, suc, ◌*◌, List, [], ◌∷◌, ◌++◌, length, Bool, None, Result, Err, ◌<◌, ◌≤◌, slice_index}
+-- The kinds of tags that a reader knows (NFC Forum Type 2, Type 4 and Type 5 Tag): which stores they have, which area a
+-- store names and what it holds, and which commands ask for its bytes in their order. Files.antt says it of a Type 4
+-- tag.
+use Rattle.std.specs.Prelude.{◌≡◌, ℕ, zero, suc, ◌*◌, List, [], ◌∷◌, ◌++◌, length, Bool, None, Result, Err, ◌<◌, ◌≤◌}
+use Rattle.std.specs.Prelude.{slice_index}
 use Rattle.nfc_base.specs.Signal.{Signal}
 use Rattle.nfc_base.specs.TagLinks.{TagKind, Type2, Type4, Type5, TagState, TagStep, LinkView, MayAsk}
 use Rattle.t2t_tag.specs.Store.{IsT2Store, T2Memory}
@@ -21,15 +23,15 @@ use Rattle.tag_reader.specs.declared.how.How.TheVariants.{T2, T4, T5}
 use Rattle.tag_reader.specs.Blocks.{ask_frame, ask_at, progress_at}
 use Rattle.tag_reader.specs.Files.{IsFileStore, t4_form, file_command, file_frame, t4_link_step}
 
--- A store that a tag has, and how many bytes are read at once: 16 of a Type 2 tag, a block of a Type 5 tag. The number says
--- nothing of a Type 4 tag, whose container says how many bytes a read may ask for.
+-- A store that a tag has, and how many bytes are read at once: 16 of a Type 2 tag, a block of a Type 5 tag. The number
+-- says nothing of a Type 4 tag, whose container says how many bytes a read may ask for.
 abbrev pub IsStore : How → ℕ → List ℕ → Type 0
 IsStore T2 size store = (size ≡ 16) × IsT2Store store
 IsStore T4 size store = IsFileStore store
 IsStore (T5 id) size store = IsT5Store size store
 
--- The area that a store's container names. That of a Type 5 tag ends where block numbers do at the latest. A Type 4 tag has a
--- file in the place of an area, and none is named.
+-- The area that a store's container names. That of a Type 5 tag ends where block numbers do at the latest. A Type 4 tag
+-- has a file in the place of an area, and none is named.
 abbrev pub area_of : How → ℕ → List ℕ → Result Space ContainerFault
 area_of T2 size store = t2_container (four_bytes store 12)
 area_of T4 size store = Err NotNdef
@@ -41,8 +43,8 @@ IsStoreForm T2 size store f = IsT2Form store f
 IsStoreForm T4 size store f = f ≡ t4_form store
 IsStoreForm (T5 id) size store f = IsT5Form size store f
 
--- The command that is the k-th, counted from 0, of those that ask for what a store holds: a READ of four blocks of a Type 2
--- tag, of one block or of several of a Type 5 tag, or a command of a Type 4 tag.
+-- The command that is the k-th, counted from 0, of those that ask for what a store holds: a READ of four blocks of a
+-- Type 2 tag, of one block or of several of a Type 5 tag, or a command of a Type 4 tag.
 abbrev pub command : How → ℕ → List ℕ → ℕ → Signal
 command T2 size store k = t2.command_frame (t2_command.Read (4 * k))
 command T4 size store k = file_frame (file_command store k)
@@ -68,7 +70,14 @@ t2_step locked s c = record {
 }
 
 abbrev pub t5_memory : List ℕ → ℕ → List Bool → Bool → TagState → T5State
-t5_memory id size locked quiet s = record { id = id; size = size; store = s.store; locked = locked; quiet = quiet; round = None }
+t5_memory id size locked quiet s = record {
+  id = id;
+  size = size;
+  store = s.store;
+  locked = locked;
+  quiet = quiet;
+  round = None;
+}
 
 abbrev pub t5_step : List ℕ → ℕ → List Bool → Bool → TagState → Signal → TagStep
 t5_step id size locked quiet s c = record {
@@ -82,9 +91,11 @@ abbrev pub Steps : How → ℕ → LinkView → Type 0
 Steps T2 size v = (locked : List Bool)
     × ((s : TagState) (c : Signal) → IsT2Store s.store → MayAsk Type2 v.identifier c → v.step s c ≡ t2_step locked s c)
 Steps T4 size v = (code : ℕ) × (code ≤ 8)
-    × ((s : TagState) (c : Signal) → IsFileStore s.store → MayAsk Type4 v.identifier c → v.step s c ≡ t4_link_step code s c)
+    × ((s : TagState) (c : Signal) → IsFileStore s.store → MayAsk Type4 v.identifier c
+    → v.step s c ≡ t4_link_step code s c)
 Steps (T5 id) size v = (locked : List Bool) × (quiet : Bool)
-    × ((s : TagState) (c : Signal) → IsT5Store size s.store → MayAsk Type5 id c → v.step s c ≡ t5_step id size locked quiet s c)
+    × ((s : TagState) (c : Signal) → IsT5Store size s.store → MayAsk Type5 id c
+    → v.step s c ≡ t5_step id size locked quiet s c)
 
 abbrev pub kind_of : How → TagKind
 kind_of T2 = Type2

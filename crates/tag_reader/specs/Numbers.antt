@@ -1,7 +1,9 @@
 -- The numbers of the errors. They are this project's own.
 use Rattle.std.specs.Prelude.{ℕ}
 use Rattle.tag_reader.specs.declared.fault.ReadFault.{ReadFault}
-use Rattle.tag_reader.specs.declared.fault.ReadFault.TheVariants.{NotNdef, Version, NoRead, Sectors, BadSize, NoMessageTlv, BadTlv, Refused, FieldLost, SixBad, Memory, Protocol}
+use Rattle.tag_reader.specs.declared.fault.ReadFault.TheVariants.{NotNdef, Version, NoRead, Sectors, BadSize}
+use Rattle.tag_reader.specs.declared.fault.ReadFault.TheVariants.{NoMessageTlv, BadTlv, Refused, FieldLost, SixBad}
+use Rattle.tag_reader.specs.declared.fault.ReadFault.TheVariants.{Memory, Protocol}
 
 abbrev pub read_fault_number : ReadFault → ℕ
 read_fault_number NotNdef = 1

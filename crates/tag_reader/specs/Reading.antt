@@ -25,11 +25,12 @@ IsFileOf T2 store map' = ⊥
 IsFileOf T4 store map' = NamesFile store map'
 IsFileOf (T5 id) store map' = ⊥
 
--- Where the message lies: the map of the area that the container names, found over the store, or the file that it names. A tag
--- that ends before its area doesn't cut it.
+-- Where the message lies: the map of the area that the container names, found over the store, or the file that it
+-- names. A tag that ends before its area doesn't cut it.
 abbrev pub IsSite : How → ℕ → List ℕ → Site → Bool → Type 0
 IsSite how size store (Area map') writable =
-    (area_of how size store ≡ Ok map'.space) × IsWalk map'.space store (walk.Held map') × (writable ≡ map'.space.writable)
+    (area_of how size store ≡ Ok map'.space) × IsWalk map'.space store (walk.Held map')
+    × (writable ≡ map'.space.writable)
 IsSite how size store (File map') writable = IsFileOf how store map' × (writable ≡ map'.writable)
 
 -- The message that a store holds, where it lies, and whether writing is free.
@@ -37,8 +38,8 @@ pub record IsFound (how : How) (size : ℕ) (store : List ℕ) (found : Found) :
   pub held : IsStoreForm how size store (Message found.message)
   pub site : IsSite how size store found.site found.writable
 
--- Each fault: of the store's form, or of the link. A tag of these kinds refuses no command that is asked. Want of memory is the
--- reader's own, and then the link isn't over, or it is that by which the link is over.
+-- Each fault: of the store's form, or of the link. A tag of these kinds refuses no command that is asked. Want of
+-- memory is the reader's own, and then the link isn't over, or it is that by which the link is over.
 abbrev pub IsReadFault : How → ℕ → List ℕ → LinkView → LinkView → ReadFault → Type 0
 IsReadFault how size store a b fault.NotNdef = IsStoreForm how size store (Faulty container.NotNdef)
 IsReadFault how size store a b fault.Version = IsStoreForm how size store (Faulty container.Version)
@@ -78,7 +79,8 @@ OnTold (Err e) P = is_told e ≡ true → P
 abbrev pub KeepsStore : How → LinkView → LinkView → Type 0
 KeepsStore how a b = OfTag how a (λ size. Stays a b)
 
--- What was answered is the first of what is asked, and all of it where it tells what the store holds; then the link goes on.
+-- What was answered is the first of what is asked, and all of it where it tells what the store holds; then the link
+-- goes on.
 abbrev pub AsksInOrder : Aim → How → LinkView → LinkView → Type 0
 AsksInOrder aim how a b = OfTag how a (λ size. HasAskedFor aim how size a.state.store a b)
 

@@ -1,5 +1,6 @@
 -- What the parts of a reading say. No public contract speaks of these.
-use Rattle.std.specs.Prelude.{◌≡◌, ℕ, ◌+◌, ◌*◌, ◌<◌, ◌≤◌, ◌⊎◌, List, [], ◌∷◌, ◌++◌, length, take, drop, false, Some, None, Result, Ok, Err, IfOk, IfErr}
+use Rattle.std.specs.Prelude.{◌≡◌, ℕ, ◌+◌, ◌*◌, ◌<◌, ◌≤◌, ◌⊎◌, List, [], ◌∷◌, ◌++◌, length, take, drop, false, Some}
+use Rattle.std.specs.Prelude.{None, Result, Ok, Err, IfOk, IfErr}
 use Rattle.nfc_base.specs.Signal.{Signal}
 use Rattle.nfc_base.specs.TagLinks.{LinkView, after_all}
 use Rattle.nfc_base.specs.declared.tag_link.AskFault.{AskFault}
@@ -76,7 +77,8 @@ AsksNext size k a b known known' (Ok done) = Learns size k a b known known'
 AsksNext size k a b known known' (Err e) = Fails (command T2 size a.state.store k) a b e
 
 abbrev pub AsksNextOf : {A : Type 0} → ℕ → LinkView → LinkView → List ℕ → List ℕ → Result A ReadFault → Type 0
-AsksNextOf k a b known known' result = OfTag T2 a (λ size. IsInReach a.state.store k → AsksNext size k a b known known' result)
+AsksNextOf k a b known known' result = OfTag T2 a (λ size. IsInReach a.state.store k
+    → AsksNext size k a b known known' result)
 
 -- A reading or a survey under way, of a tag of whatever kind: the first n commands are answered, n not 0.
 pub record Asks (aim : Aim) (how : How) (size : ℕ) (a b : LinkView) (n : ℕ) : Type 0 where
@@ -125,7 +127,8 @@ Calms a b (Ok map') = Unit {0}
 Calms a b (Err e) = a.over ≡ None → a.dark ≡ false → b.noise ≡ a.noise → IsToldOrMemory e
 
 -- The end of a reading, but for its message.
-pub record Reads (aim : Aim) (how : How) (size : ℕ) (a b : LinkView) (known : List ℕ) (result : Result AreaMap ReadFault) : Type 0 where
+pub record Reads (aim : Aim) (how : How) (size : ℕ) (a b : LinkView) (known : List ℕ)
+    (result : Result AreaMap ReadFault) : Type 0 where
   pub stays : Stays a b
   pub asked : HasAskedFor aim how size a.state.store a b
   pub whole : OnTold result (HasAskedAllFor aim how size a.state.store a b)
@@ -134,7 +137,8 @@ pub record Reads (aim : Aim) (how : How) (size : ℕ) (a b : LinkView) (known : 
   pub calm : Calms a b result
 
 -- A reading or a survey, of a tag of whatever kind, from its first view of the link to its last: what it gives is this.
-pub record Concludes {A : Type 0} (aim : Aim) (gives : A → Type 0) (how : How) (size : ℕ) (a b : LinkView) (result : Result A ReadFault) : Type 0 where
+pub record Concludes {A : Type 0} (aim : Aim) (gives : A → Type 0) (how : How) (size : ℕ) (a b : LinkView)
+    (result : Result A ReadFault) : Type 0 where
   pub stays : Stays a b
   pub asked : HasAskedFor aim how size a.state.store a b
   pub whole : OnTold result (HasAskedAllFor aim how size a.state.store a b)

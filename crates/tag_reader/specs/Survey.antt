@@ -26,14 +26,15 @@ block_size T2 size = 4
 block_size T4 size = 0
 block_size (T5 id) size = size
 
--- The area that a message may be written to. That of a Type 5 tag ends where the tag does at the latest; a Type 4 tag has none.
+-- The area that a message may be written to. That of a Type 5 tag ends where the tag does at the latest; a Type 4 tag
+-- has none.
 abbrev pub written_area : How → ℕ → List ℕ → Result Space ContainerFault
 written_area T2 size store = area_of T2 size store
 written_area T4 size store = area_of T4 size store
 written_area (T5 id) size store = cut_by (area_of (T5 id) size store) (length store)
 
--- An area that holds a message is known to its end, or to the tag's: the map is of the area that ends there. What is known is a
--- front of the store with each block of the area whole.
+-- An area that holds a message is known to its end, or to the tag's: the map is of the area that ends there. What is
+-- known is a front of the store with each block of the area whole.
 pub record IsKnownArea (how : How) (size : ℕ) (store known : List ℕ) (block : ℕ) (map' : AreaMap) : Type 0 where
   pub area : written_area how size store ≡ Ok map'.space
   pub front : known ≡ take (length known) store

@@ -1,6 +1,7 @@
--- What the answers of a tag tell a writer that surveys it, whatever the tag does (NFC Forum Type 2, Type 4 and Type 5 Tag): the
--- same pieces as they bring a reader, and the ground that they say.
-use Rattle.std.specs.Prelude.{◌≡◌, ℕ, ◌-◌, ◌<◌, ◌≤◌, List, [], ◌∷◌, ◌++◌, length, take, Bool, true, false, None, Result, Ok, Err}
+-- What the answers of a tag tell a writer that surveys it, whatever the tag does (NFC Forum Type 2, Type 4 and Type 5
+-- Tag): the same pieces as they bring a reader, and the ground that they say.
+use Rattle.std.specs.Prelude.{◌≡◌, ℕ, ◌-◌, ◌<◌, ◌≤◌, List, [], ◌∷◌, ◌++◌, length, take, Bool, true, false, None, Result}
+use Rattle.std.specs.Prelude.{Ok, Err}
 use Rattle.nfc_base.specs.Signal.{Signal}
 use Rattle.nfc_base.specs.TagLinks.{LinkView, after_all}
 use Rattle.tlv_area.specs.declared.space.Space.{Space}
@@ -17,7 +18,8 @@ use Rattle.tag_reader.specs.declared.ground.Ground.{Ground}
 use Rattle.tag_reader.specs.declared.ground.Ground.TheVariants.{Area, File}
 use Rattle.tag_reader.specs.Kinds.{area_of}
 use Rattle.tag_reader.specs.Survey.{block_size}
-use Rattle.tag_reader.specs.Heard.{joined, first_size, next_command, asked_for, EndsTag, IsBrought, IsStopped, HasContainer, HasFile, IsFaultBy}
+use Rattle.tag_reader.specs.Heard.{joined, first_size, next_command, asked_for, EndsTag, IsBrought, IsStopped}
+use Rattle.tag_reader.specs.Heard.{HasContainer, HasFile, IsFaultBy}
 
 -- What was asked: the commands that these pieces answer and, where the tag has ended, the one whose answer told so.
 abbrev pub surveyed_by : How → List (List ℕ) → Bool → List Signal
@@ -41,7 +43,8 @@ known_heard T4 end bytes = bytes
 known_heard (T5 id) end bytes = bytes
 
 -- The pieces have all of that area, and it holds a message.
-pub record IsAreaHeard (how : How) (ps : List (List ℕ)) (ended : Bool) (known : List ℕ) (block : ℕ) (map' : AreaMap) : Type 0 where
+pub record IsAreaHeard (how : How) (ps : List (List ℕ)) (ended : Bool) (known : List ℕ) (block : ℕ) (map' : AreaMap)
+    : Type 0 where
   pub some : 0 < length ps
   pub container : HasContainer how (joined ps)
   pub area : area_heard how ps ended ≡ Ok map'.space

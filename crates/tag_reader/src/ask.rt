@@ -59,7 +59,8 @@ fn most_blocks(size: usize, end: u32, block: usize) -> usize
     (MOST_BYTES / size).min(left.min(SHORT_NUMBERS as usize - block))
 }
 
-/// What is asked behind what is known: several blocks at once where the container allows it and the tag didn't refuse it.
+/// What is asked behind what is known: several blocks at once where the container allows it and the tag didn't refuse
+/// it.
 pub fn next_ask(known: &Known) -> Ask
     requires { CanAsk known.now }
     ensures { result ≡ next_ask known.now.size known.now.single known.now.bytes.items }

@@ -10,8 +10,8 @@ use std::alloc::AllocError;
 use thiserror::Error;
 use tlv_area::ContainerFault;
 
-/// Why a reading gives no message: what the tag's store holds, that the tag refused a command, with its code, or that the
-/// link is over. The numbers are this project's own.
+/// Why a reading gives no message: what the tag's store holds, that the tag refused a command, with its code, or that
+/// the link is over. The numbers are this project's own.
 #[derive(Clone, Copy, Debug, PartialEq, Eq, Error)]
 pub enum ReadFault {
     #[error("the container is none of an NDEF tag")]

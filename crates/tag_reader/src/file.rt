@@ -48,7 +48,8 @@ pub fn read_file<T: TagLink>(alloc: Global, link: &mut T) -> Result<Found, ReadF
     })
 }
 
-/// Whether an answer brings as many bytes as its command needs. SELECT of the application may bring any that the tag likes.
+/// Whether an answer brings as many bytes as its command needs. SELECT of the application may bring any that the tag
+/// likes.
 fn has_size(command: &T4Command, bytes: &[u8]) -> bool
     requires { length bytes.now ≤ 256 }
     ensures { (result ≡ true) ↔ HasSize command.now bytes.now }
@@ -194,8 +195,10 @@ fn read_message<T: TagLink>(
 ) -> Result<Vec<u8>, ReadFault>
     requires ready { T.ready link.old }
     requires of { IsOf hows.T4 (T.seen link.old) }
-    requires measured { (a : LinkView) × (m : Map) × Measured a (T.seen link.old) m length × (most ≡ min m.mle most_per_command) }
-    ensures brings { (a : LinkView) (m : Map) → Measured a (T.seen link.old) m length → most ≡ min m.mle most_per_command →
+    requires measured { (a : LinkView) × (m : Map) × Measured a (T.seen link.old) m length
+        × (most ≡ min m.mle most_per_command) }
+    ensures brings { (a : LinkView) (m : Map) → Measured a (T.seen link.old) m length
+        → most ≡ min m.mle most_per_command →
         OrFault (λ message. ReadAll a (T.seen link.new) m length message.items) hows.T4 a (T.seen link.new) result }
     ensures whole { (size : ℕ) (a : LinkView) (m : Map) → IsMeasured ToRead size a (T.seen link.old) m length →
         most ≡ most_asked a.state.store →

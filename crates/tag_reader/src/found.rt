@@ -3,7 +3,8 @@
 use nfc_base::Items;
 use tlv_area::{AreaMap, FileMap};
 
-/// Where a tag's message lies: in an area of TLVs (NFC Forum Type 2 Tag and Type 5 Tag), or in a file (NFC Forum Type 4 Tag).
+/// Where a tag's message lies: in an area of TLVs (NFC Forum Type 2 Tag and Type 5 Tag), or in a file (NFC Forum Type 4
+/// Tag).
 #[derive(Debug, Drop)]
 pub enum Site {
     Area(AreaMap),

@@ -1,11 +1,12 @@
 //! What a reading of a Type 5 tag knows of it.
 
-ghost use Rattle.std.specs.Prelude.{◌≡◌, ℕ, ◌<◌, ◌≤◌, ◌++◌, List, [], length, false, true, ◌==◌, if◌then◌else◌, OnOk, OnErr};
+ghost use Rattle.std.specs.Prelude.{◌≡◌, ℕ, ◌<◌, ◌≤◌, ◌++◌, List, [], length, false, true, ◌==◌, if◌then◌else◌, OnOk};
+ghost use Rattle.std.specs.Prelude.{OnErr};
 
 use std::alloc::{AllocError, Global};
 
-/// How many bytes each block has, 0 before the first one is known; whether the tag refused to give several blocks at once;
-/// and the bytes that are known, which are whole blocks from the first on.
+/// How many bytes each block has, 0 before the first one is known; whether the tag refused to give several blocks at
+/// once; and the bytes that are known, which are whole blocks from the first on.
 #[derive(Drop)]
 pub struct Known {
     pub size: usize,

@@ -5,7 +5,8 @@ ghost use Rattle.nfc_base.specs.declared.tag_link.AskFault.{AskFault};
 ghost use Rattle.tag_reader.specs.declared.how.How.TheVariants as hows;
 ghost use Rattle.tag_reader.specs.declared.found.Site.{Site};
 ghost use Rattle.tag_reader.specs.Asked.{ToRead};
-ghost use Rattle.tag_reader.specs.Reading.{KeepsStore, AsksInOrder, AsksAll, LeavesLink, TellsMessage, TellsCause, TellsInCalm};
+ghost use Rattle.tag_reader.specs.Reading.{KeepsStore, AsksInOrder, AsksAll, LeavesLink, TellsMessage, TellsCause};
+ghost use Rattle.tag_reader.specs.Reading.{TellsInCalm};
 ghost use Rattle.tag_reader.specs.Counts.{AsksFew};
 ghost use Rattle.tag_reader.specs.Heard.{IsOf, IsToldBy, TellsExactly, TellsRefusals, TellsSaid, TellsCutOff};
 ghost use Rattle.tag_reader.specs.Steps.{ReadsTag, of_link};
@@ -21,8 +22,8 @@ use nfc_base::{Items, TagLink};
 use std::alloc::Global;
 use tlv_area::{AreaMap, copy_message};
 
-/// Reads the message of the tag behind a link, which is of the kind that `how` names (NFC Forum Type 2 Tag, Type 4 Tag and
-/// Type 5 Tag). It writes nothing, and asks for no more than it needs.
+/// Reads the message of the tag behind a link, which is of the kind that `how` names (NFC Forum Type 2 Tag, Type 4 Tag
+/// and Type 5 Tag). It writes nothing, and asks for no more than it needs.
 pub fn read<T: TagLink>(alloc: Global, link: &mut T, how: How) -> Result<Found, ReadFault>
     requires ready { T.ready link.old }
     // it leads to a tag of that kind, with that identifier

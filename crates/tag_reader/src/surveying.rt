@@ -35,8 +35,8 @@ pub fn survey<T: TagLink>(alloc: Global, link: &mut T, how: How) -> Result<Groun
     requires of { IsOf how (T.seen link.old) }
     // whatever the tag does: the map is one that `capacity` takes
     ensures places { IfOk result IsPlacedGround }
-    // and what it tells stands in the tag's answers, and each fault in the last of them, in what they brought, or in the
-    // link, which is then over at a command that the survey needs
+    // and what it tells stands in the tag's answers, and each fault in the last of them, in what they brought, or in
+    // the link, which is then over at a command that the survey needs
     ensures told { IsGroundToldBy how (T.seen link.old) (T.seen link.new) result }
     // where it is a tag of that kind: the store stays, in each image
     ensures stays { KeepsStore how (T.seen link.old) (T.seen link.new) }

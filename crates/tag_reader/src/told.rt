@@ -23,8 +23,8 @@ use t5t_tag::{NO_BLOCK, T5Answer};
 /// How many bytes a block has at least, so that a container of four bytes lies in the first.
 const LEAST_BLOCK: usize = 4;
 
-/// What the answer of a Type 2 tag tells: the four blocks that a READ asks for. It may refuse too, and no such tag answers
-/// anything else.
+/// What the answer of a Type 2 tag tells: the four blocks that a READ asks for. It may refuse too, and no such tag
+/// answers anything else.
 pub fn tell_t2(answer: &Frame) -> Result<[u8; 16], ReadFault>
     ensures tells { IfOk result (λ content. HasContent hows.T2 answer.now content) }
     ensures fault { IfErr result (TellsFault hows.T2 answer.now) }
@@ -47,8 +47,8 @@ pub enum BlocksTold {
     Ended,
 }
 
-/// Whether content is as long as it was asked for, where blocks are so long, 0 of the first one. That has room for a container
-/// of four bytes.
+/// Whether content is as long as it was asked for, where blocks are so long, 0 of the first one. That has room for a
+/// container of four bytes.
 fn is_blocks(ask: &Ask, size: usize, content: usize) -> bool
     requires { size ≤ 256 }
     ensures { (bytes : List ℕ) → length bytes ≡ content → (result ≡ true) ↔ IsBlocks size ask.now bytes }
@@ -62,8 +62,8 @@ fn is_blocks(ask: &Ask, size: usize, content: usize) -> bool
     }
 }
 
-/// An error of a Type 5 tag. Whatever it is, several blocks are then asked for one by one. Of a block that isn't there behind
-/// the first it tells that the tag has ended.
+/// An error of a Type 5 tag. Whatever it is, several blocks are then asked for one by one. Of a block that isn't there
+/// behind the first it tells that the tag has ended.
 fn tell_error(ask: &Ask, size: usize, code: u8) -> Result<BlocksTold, ReadFault>
     ensures tells { (id : List ℕ) (r : Signal) → r ≡ t5.answer_frame (T5Answer.Error code) →
         TellsBlocks id ask.now size r result }
@@ -80,7 +80,8 @@ fn tell_error(ask: &Ask, size: usize, code: u8) -> Result<BlocksTold, ReadFault>
     }
 }
 
-/// What the answer of a Type 5 tag tells that was asked for these blocks, which are so long, 0 before the first is known.
+/// What the answer of a Type 5 tag tells that was asked for these blocks, which are so long, 0 before the first is
+/// known.
 pub fn tell_blocks(ask: &Ask, size: usize, answer: &Frame) -> Result<BlocksTold, ReadFault>
     requires { size ≤ 256 }
     ensures tells { (id : List ℕ) → TellsBlocks id ask.now size answer.now result }
@@ -99,7 +100,8 @@ pub fn tell_blocks(ask: &Ask, size: usize, answer: &Frame) -> Result<BlocksTold,
     }
 }
 
-/// What the answer of a Type 4 tag tells: the bytes that it brings, where its status bytes tell that the command was obeyed.
+/// What the answer of a Type 4 tag tells: the bytes that it brings, where its status bytes tell that the command was
+/// obeyed.
 pub fn tell_t4(answer: &Frame) -> Result<ArrayVec<u8, 256>, ReadFault>
     ensures tells { IfOk result (λ content. HasContent hows.T4 answer.now content.items) }
     ensures fault { IfErr result (TellsFault hows.T4 answer.now) }

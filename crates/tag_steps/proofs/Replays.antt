@@ -37,7 +37,15 @@ module _ (t : Tag) (last : Option Signal) (asked : List Signal) (c : Signal) whe
   }
   ran_out_by true = record {
     more = c ∷ [];
-    leads = record { kind = refl; identifier = refl; step = refl; obeyed = refl; store = ap (λ (s : TagState). s.store) (after_one t.step t.start asked c); state = λ n. search rules; ended = λ e q. search rules };
+    leads = record {
+      kind = refl;
+      identifier = refl;
+      step = refl;
+      obeyed = refl;
+      store = ap (λ (s : TagState). s.store) (after_one t.step t.start asked c);
+      state = λ n. search rules;
+      ended = λ e q. search rules;
+    };
     steady = record { only = (refl, tt); same = (refl, tt); most = λ k. search rules };
   }
 

@@ -22,4 +22,10 @@ abbrev pub log_step : List Turn → TagState → Signal → TagStep
 log_step turns s c = record { answer = answer_in turns (length s.store); after = record s { store = 0 ∷ s.store } }
 
 abbrev pub logged : How → List Turn → Tag
-logged how turns = record { kind = kind_of how; identifier = id_of how; start = plain_state []; step = log_step turns; lost = false }
+logged how turns = record {
+  kind = kind_of how;
+  identifier = id_of how;
+  start = plain_state [];
+  step = log_step turns;
+  lost = false;
+}

@@ -22,14 +22,15 @@ reading_of (Send c) = Err faults.FieldLost
 reading_of (Found found) = Ok found
 reading_of (Fault e) = Err e
 
--- A command to send stands behind all turns, and is the last that was asked. Else nothing was asked that they don't answer.
+-- A command to send stands behind all turns, and is the last that was asked. Else nothing was asked that they don't
+-- answer.
 abbrev pub ReadStops : List Turn → ℕ → Option AskFault → Option Signal → NextRead → Type 0
 ReadStops turns used over last (Send c) = (used ≡ length turns) × (over ≡ Some ask.FieldLost) × (last ≡ Some c)
 ReadStops turns used over last (Found found) = over ≡ None
 ReadStops turns used over last (Fault e) = over ≡ Some ask.FieldLost → ⊥
 
--- It tells what a reading over the link to this tag tells, which stands behind the first so many turns. The tag may have obeyed a
--- command to send already.
+-- It tells what a reading over the link to this tag tells, which stands behind the first so many turns. The tag may
+-- have obeyed a command to send already.
 pub record TellsRead (how : How) (t : Tag) (turns : List Turn) (next : NextRead) : Type 0 where
   pub used : ℕ
   pub few : used ≤ length turns
@@ -68,11 +69,12 @@ SendsNext how t turns (Send c) = IsNextBehind how t turns c
 SendsNext how t turns (Found found) = Unit {0}
 SendsNext how t turns (Fault e) = Unit {0}
 
--- The turns' commands are those that were to be sent: where the turns before one brought pieces, one a command, its own is the
--- command that follows them.
+-- The turns' commands are those that were to be sent: where the turns before one brought pieces, one a command, its own
+-- is the command that follows them.
 abbrev pub AreSent : How → Tag → List Turn → Type 0
 AreSent how t turns =
-    (n : ℕ) (ps : List (List ℕ)) (u : Turn) → n < length turns → u ≡ get_or turns n u → IsBroughtBy how t.step t.start [] ps
+    (n : ℕ) (ps : List (List ℕ)) (u : Turn) → n < length turns → u ≡ get_or turns n u
+    → IsBroughtBy how t.step t.start [] ps
     → commands_of (take n turns) ≡ asked_for how [] ps → u.command ≡ next_command how ps
 
 -- the tag's last answer is one that may not come

@@ -1,5 +1,6 @@
 -- Turns with a tag, and the link that they were made over, as it stands behind some of them (this project's own).
-use Rattle.std.specs.Prelude.{◌≡◌, ◌<◌, ℕ, List, [], ◌∷◌, ◌++◌, take, length, get_or, Option, Some, None, false, true, Bool}
+use Rattle.std.specs.Prelude.{◌≡◌, ◌<◌, ℕ, List, [], ◌∷◌, ◌++◌, take, length, get_or, Option, Some, None, false, true}
+use Rattle.std.specs.Prelude.{Bool}
 use Rattle.nfc_base.specs.Signal.{Signal}
 use Rattle.nfc_base.specs.Links.{Counts}
 use Rattle.nfc_base.specs.TagLinks.{TagKind, TagState, TagStep, LinkView, after_all}
@@ -7,8 +8,8 @@ use Rattle.nfc_base.specs.declared.tag_link.AskFault.{AskFault}
 use Rattle.nfc_base.specs.declared.tag_link.AskFault.TheVariants.{FieldLost, SixBad, Memory, Protocol}
 use Rattle.tag_steps.specs.declared.turn.Turn.{Turn}
 
--- A tag: its kind and identifier, what it was when the first command was sent, its step, and whether it obeyed the command that was
--- sent last, whose answer isn't there.
+-- A tag: its kind and identifier, what it was when the first command was sent, its step, and whether it obeyed the
+-- command that was sent last, whose answer isn't there.
 pub record Tag : Type 0 where
   pub kind : TagKind
   pub identifier : List ℕ
@@ -45,7 +46,8 @@ abbrev pub obeyed_of : Option AskFault → Bool → Option Signal → List Signa
 obeyed_of (Some FieldLost) true (Some c) asked = asked ++ c ∷ []
 obeyed_of over lost last asked = asked
 
--- The link to a tag behind these commands: the one that was sent last, and by which fault the link is over, where it is.
+-- The link to a tag behind these commands: the one that was sent last, and by which fault the link is over, where it
+-- is.
 abbrev pub link_at : Tag → Option AskFault → Option Signal → List Signal → LinkView
 link_at t over last asked = record {
   kind = t.kind;

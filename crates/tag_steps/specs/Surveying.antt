@@ -22,7 +22,8 @@ survey_of (Send c) = Err faults.FieldLost
 survey_of (Ground found) = Ok found
 survey_of (Fault e) = Err e
 
--- A command to send stands behind all turns, and is the last that was asked. At a fault nothing was asked that the turns don't answer.
+-- A command to send stands behind all turns, and is the last that was asked. At a fault nothing was asked that the
+-- turns don't answer.
 abbrev pub SurveyStops : List Turn → ℕ → Option AskFault → Option Signal → NextSurvey → Type 0
 SurveyStops turns used over last (Send c) = (used ≡ length turns) × (over ≡ Some ask.FieldLost) × (last ≡ Some c)
 SurveyStops turns used over last (Ground found) = Unit {0}

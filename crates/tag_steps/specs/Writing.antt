@@ -1,5 +1,6 @@
 -- What a writing tells that goes on a command at a time.
-use Rattle.std.specs.Prelude.{◌≡◌, ℕ, ◌<◌, ◌≤◌, ◌⊎◌, List, [], ◌∷◌, ◌++◌, length, take, get_or, Option, Some, Result, Ok, Err}
+use Rattle.std.specs.Prelude.{◌≡◌, ℕ, ◌<◌, ◌≤◌, ◌⊎◌, List, [], ◌∷◌, ◌++◌, length, take, get_or, Option, Some, Result}
+use Rattle.std.specs.Prelude.{Ok, Err}
 use Rattle.nfc_base.specs.Signal.{Signal}
 use Rattle.nfc_base.specs.TagLinks.{LinkView}
 use Rattle.nfc_base.specs.declared.tag_link.AskFault.{AskFault}
@@ -25,14 +26,15 @@ writing_of (Send c) = Err faults.FieldLost
 writing_of Done = Ok tt
 writing_of (Fault e) = Err e
 
--- A command to send stands behind all turns, and is the last that was asked. At a fault nothing was asked that the turns don't answer.
+-- A command to send stands behind all turns, and is the last that was asked. At a fault nothing was asked that the
+-- turns don't answer.
 abbrev pub WriteStops : List Turn → ℕ → Option AskFault → Option Signal → NextWrite → Type 0
 WriteStops turns used over last (Send c) = (used ≡ length turns) × (over ≡ Some ask.FieldLost) × (last ≡ Some c)
 WriteStops turns used over last Done = Unit {0}
 WriteStops turns used over last (Fault e) = over ≡ Some ask.FieldLost → ⊥
 
--- It tells what a writing over the link to this tag tells, which stands behind the first so many turns. The tag may have obeyed a
--- command to send already: its stores keep the law of a write with and without that.
+-- It tells what a writing over the link to this tag tells, which stands behind the first so many turns. The tag may
+-- have obeyed a command to send already: its stores keep the law of a write with and without that.
 pub record TellsWrite (how : How) (message : List ℕ) (t : Tag) (turns : List Turn) (next : NextWrite) : Type 0 where
   pub used : ℕ
   pub few : used ≤ length turns
@@ -74,7 +76,8 @@ pub record IsOddWrite (how : How) (message : List ℕ) (a b : LinkView) : Type 0
   pub answered : IsAnsweredBy v b front next r
   pub odd : IsOddAnswer how r
 
--- The tag's last answer is one that may not come, to a read or to a write, or the tag says blocks of more than 32 bytes.
+-- The tag's last answer is one that may not come, to a read or to a write, or the tag says blocks of more than 32
+-- bytes.
 abbrev pub IsOddTo : How → List ℕ → LinkView → LinkView → Type 0
 IsOddTo how message a b = IsOddly how a b ⊎ (IsDeclinedBy how message a b faults.Protocol ⊎ IsOddWrite how message a b)
 

@@ -1,7 +1,9 @@
-//! Readings and writings of a tag a command at a time: what was answered so far goes in, and the next command comes out, or the end.
+//! Readings and writings of a tag a command at a time: what was answered so far goes in, and the next command comes
+//! out, or the end.
 //!
-//! Who has the radio keeps the turns so far, each a command and its answer (`turn`), and hands them in each time. `replay` is the link
-//! over them, `reading`, `surveying` and `writing` are the calls, and `logged` makes them for a tag of which nothing is known.
+//! Who has the radio keeps the turns so far, each a command and its answer (`turn`), and hands them in each time.
+//! `replay` is the link over them, `reading`, `surveying` and `writing` are the calls, and `logged` makes them for a
+//! tag of which nothing is known.
 #![tactic(auto)]
 
 mod logged;

@@ -19,8 +19,8 @@ pub enum NextRead {
     Fault(ReadFault),
 }
 
-/// Goes on with the reading of a tag, with which these turns were made so far. It begins with none, and each further one has the
-/// command that was to be sent. Another command in their place is told as `Protocol`.
+/// Goes on with the reading of a tag, with which these turns were made so far. It begins with none, and each further
+/// one has the command that was to be sent. Another command in their place is told as `Protocol`.
 #[tactic(auto, using(crate::proofs::Odd::by_answer))]
 pub fn next_read<G: RealTag>(alloc: Global, tag: &G, how: How, turns: &[Turn]) -> NextRead
     // the tag gave these answers

@@ -7,7 +7,8 @@ use crate::turn::{RealTag, Turn};
 use nfc_base::{AskFault, Frame, TagLink};
 use std::alloc::Global;
 
-/// A link to a tag whose answers so far are known. A command behind them ends it: it is the one to be sent next. It takes no memory.
+/// A link to a tag whose answers so far are known. A command behind them ends it: it is the one to be sent next. It
+/// takes no memory.
 #[derive(Drop)]
 pub struct Replay<'a, G> {
     pub tag: &'a G,

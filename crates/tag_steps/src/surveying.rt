@@ -12,7 +12,8 @@ use nfc_base::Frame;
 use std::alloc::Global;
 use tag_reader::{Ground, How, ReadFault, survey};
 
-/// What follows the turns so far: a command to be sent, what a writer needs to know of the tag, or why it can't be known.
+/// What follows the turns so far: a command to be sent, what a writer needs to know of the tag, or why it can't be
+/// known.
 #[derive(Debug, Drop)]
 pub enum NextSurvey {
     Send(Frame),
@@ -20,8 +21,8 @@ pub enum NextSurvey {
     Fault(ReadFault),
 }
 
-/// Goes on with the survey of a tag, with which these turns were made so far. It begins with none, and each further one has the
-/// command that was to be sent. Another command in their place is told as `Protocol`.
+/// Goes on with the survey of a tag, with which these turns were made so far. It begins with none, and each further one
+/// has the command that was to be sent. Another command in their place is told as `Protocol`.
 #[tactic(auto, using(crate::proofs::Odd::by_answer))]
 pub fn next_survey<G: RealTag>(alloc: Global, tag: &G, how: How, turns: &[Turn]) -> NextSurvey
     // the tag gave these answers

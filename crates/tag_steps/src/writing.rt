@@ -20,8 +20,8 @@ pub enum NextWrite {
     Fault(WriteFault),
 }
 
-/// Goes on with the writing of a tag, with which these turns were made so far. It begins with none, and each further one has the
-/// command that was to be sent. Another command in their place is told as `Protocol`.
+/// Goes on with the writing of a tag, with which these turns were made so far. It begins with none, and each further
+/// one has the command that was to be sent. Another command in their place is told as `Protocol`.
 pub fn next_write<G: RealTag>(
     alloc: Global,
     tag: &G,
@@ -35,7 +35,8 @@ pub fn next_write<G: RealTag>(
     // what it tells is what a writing over these turns tells, and a tag of that kind keeps the law of a write
     ensures told { TellsWrite how message.now (G.real tag.now) turns.now result }
     // where the turns' commands are those that were to be sent, an odd answer of the tag alone is told as one
-    ensures odd { AreSentToWrite how message.now (G.real tag.now) turns.now → result ≡ NextWrite.Fault WriteFault.Protocol
+    ensures odd { AreSentToWrite how message.now (G.real tag.now) turns.now
+        → result ≡ NextWrite.Fault WriteFault.Protocol
         → IsOddToWriter how message.now (G.real tag.now) turns.now }
 {
     let mut link = Replay {

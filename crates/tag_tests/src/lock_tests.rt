@@ -16,9 +16,11 @@ use tag_writer::unlocked_is_done;
 fn is_done_as_made()
     ensures t2 { (store message : List ℕ) (place : Place) → IsT2Store store → Takes hows.T2 16 store message place →
         IsOutcome hows.T2 16 (t2_step (unlocked store).locked) (plain_state store) message (Ok tt) }
-    ensures t4 { (code : ℕ) (store message : List ℕ) (place : Place) → code ≤ 8 → IsFileStore store → Takes hows.T4 0 store message place →
+    ensures t4 { (code : ℕ) (store message : List ℕ) (place : Place) → code ≤ 8 → IsFileStore store
+        → Takes hows.T4 0 store message place →
         IsOutcome hows.T4 0 (t4_link_step code) (plain_state store) message (Ok tt) }
-    ensures t5 { (id : List ℕ) (size : ℕ) (store message : List ℕ) (place : Place) → IsNamed (hows.T5 id) id → IsT5Store size store →
+    ensures t5 { (id : List ℕ) (size : ℕ) (store message : List ℕ) (place : Place) → IsNamed (hows.T5 id) id
+        → IsT5Store size store →
         Takes (hows.T5 id) size store message place →
         IsOutcome (hows.T5 id) size (t5_step id size (fresh id size store).locked false) (plain_state store) message (Ok tt) }
 {

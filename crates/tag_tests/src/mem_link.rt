@@ -10,8 +10,8 @@ use std::alloc::Global;
 /// How many commands a link answers that isn't lost.
 pub const ENOUGH: u16 = 5000;
 
-/// A link to a tag that is lost after so many commands, where `behind` says behind the one that isn't answered. What was
-/// obeyed and what was answered stands in order.
+/// A link to a tag that is lost after so many commands, where `behind` says behind the one that isn't answered. What
+/// was obeyed and what was answered stands in order.
 #[derive(Drop)]
 pub struct MemLink<C> {
     pub card: C,

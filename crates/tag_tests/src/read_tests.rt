@@ -433,8 +433,8 @@ fn no_tag_has_a_file_that_is_shorter_than_its_container_says(rt: HostRuntime) ->
     Ok(())
 }
 
-/// The commands of the Linux kernel's reader, whose SELECT by name asks for no answer: the tag obeys them one for one, and
-/// is read the same by `read`.
+/// The commands of the Linux kernel's reader, whose SELECT by name asks for no answer: the tag obeys them one for one,
+/// and is read the same by `read`.
 #[test]
 fn a_tag_tells_the_same_to_another_reader(rt: HostRuntime) -> Result<(), Fail> {
     let mut tag = tag_t4(rt.alloc(), &CONTAINER, &PLAIN)?;
@@ -463,8 +463,8 @@ fn a_tag_tells_the_same_to_another_reader(rt: HostRuntime) -> Result<(), Fail> {
     Ok(())
 }
 
-/// An answer, how many bits of its last byte count, 0 for all of them, the fault that a reading tells then, and after how
-/// many commands.
+/// An answer, how many bits of its last byte count, 0 for all of them, the fault that a reading tells then, and after
+/// how many commands.
 type OddCase<'a> = (&'a [u8], u8, ReadFault, usize);
 
 /// A reading of a card that gives the row's answer told the row's fault.

@@ -61,7 +61,8 @@ fn is_known(row: &AreaRow, store: &[u8], outcome: &Result<Ground, ReadFault>, as
     }
 }
 
-/// A store's size, its first bytes, the size of a block, how many bytes are known, the capacity, and how many commands tell it.
+/// A store's size, its first bytes, the size of a block, how many bytes are known, the capacity, and how many commands
+/// tell it.
 type AreaCase<'a> = (usize, &'a [u8], u8, usize, u32, usize);
 
 fn row_of<'a>((size, head, block, known, capacity, asks): AreaCase<'a>) -> AreaRow<'a> {

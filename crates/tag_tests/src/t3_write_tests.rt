@@ -180,8 +180,8 @@ const REFUSED: [(u8, u16, u8, u8, u16, usize, u8, usize, u8); 10] = [
     (4, 13, 0x0F, 1, 3, 16, 0, 209, 13),
 ];
 
-/// A write of so many bytes to a tag with this attribute block asks for that block, tells the fault with this number, and
-/// the block stays.
+/// A write of so many bytes to a tag with this attribute block asks for that block, tells the fault with this number,
+/// and the block stays.
 fn is_declined(
     rt: &impl Abort,
     alloc: Global,

@@ -21,7 +21,8 @@ use Rattle.tag_writer.specs.Commands.{command_at}
 use Rattle.tag_writer.proofs.Commanding.{HasCommand}
 
 -- one after another
-by_append : (how : How) (step : TagState → Signal → TagStep) (s : TagState) (cs ds : List Signal) → AreAcknowledgedBy how step s cs → AreAcknowledgedBy how step (after_all step s cs) ds → AreAcknowledgedBy how step s (cs ++ ds)
+by_append : (how : How) (step : TagState → Signal → TagStep) (s : TagState) (cs ds : List Signal) → AreAcknowledgedBy how step s cs → AreAcknowledgedBy how step (after_all step s cs) ds
+    → AreAcknowledgedBy how step s (cs ++ ds)
 by_append how step s [] ds x y = y
 by_append how step s (c ∷ cs) ds x y = (x.0, x.1, x.2, by_append how step (step s c).after cs ds x.3 y)
 
@@ -86,7 +87,8 @@ answered_behind how a b c cs front next r x y = record {
   over = y.over;
 }
 
-why_behind : (how : How) (a b c : LinkView) (cs front : List Signal) (next : Signal) (e : WriteFault) → AreAcknowledged how a b cs → Rises a b → IsWhy how b c front next e → IsWhy how a c (cs ++ front) next e
+why_behind : (how : How) (a b c : LinkView) (cs front : List Signal) (next : Signal) (e : WriteFault) → AreAcknowledged how a b cs → Rises a b → IsWhy how b c front next e
+    → IsWhy how a c (cs ++ front) next e
 why_behind how a b c cs front next (fault.Refused code) x rises why = (why.0, answered_behind how a b c cs front next why.0 x why.1, why.2)
 why_behind how a b c cs front next fault.Protocol x rises (inl odd) = inl (odd.0, answered_behind how a b c cs front next odd.0 x odd.1, odd.2)
 why_behind how a b c cs front next fault.Protocol x rises (inr lost) = inr (unanswered_behind how a b c cs front next ask.Protocol x rises lost)
@@ -124,7 +126,8 @@ stops_before how a c cs ds e s = record {
   why = s.why;
 }
 
-pub stops_at_command : (how : How) (a b c : LinkView) (cs : List Signal) (k : ℕ) (e : WriteFault) → HasCommand cs k → AreAcknowledged how a b (take k cs) → Rises a b → IsWhy how b c [] (command_at cs k) e → StopsAmong how a c cs e
+pub stops_at_command : (how : How) (a b c : LinkView) (cs : List Signal) (k : ℕ) (e : WriteFault) → HasCommand cs k → AreAcknowledged how a b (take k cs) → Rises a b
+    → IsWhy how b c [] (command_at cs k) e → StopsAmong how a c cs e
 stops_at_command how a b c cs k e h x rises why = record {
   front = take k cs;
   next = command_at cs k;
@@ -206,7 +209,8 @@ module _ (how : How) (a b : LinkView) (c r : Signal) (obeys : Obeys a b c) (rise
   put_told (Err fault.ShortMlc) tells = absurd tells
 
 -- no answer
-pub put_lost : (how : How) (a b : LinkView) (c : Signal) (f : AskFault) → IsFault a b c f → (a.over ≡ None → AskCause a b f) → ((e : AskFault) → a.over ≡ Some e → IsEnded a b e (Err f)) → (a.over ≡ None → b.last ≡ Some c)
+pub put_lost : (how : How) (a b : LinkView) (c : Signal) (f : AskFault) → IsFault a b c f → (a.over ≡ None → AskCause a b f) → ((e : AskFault) → a.over ≡ Some e → IsEnded a b e (Err f))
+    → (a.over ≡ None → b.last ≡ Some c)
     → IsWhy how a b [] c (of_link f)
 put_lost how a b c f fails cause ended last =
     by_fault f (record { answered = fails.answered ∙ sym (append-nil a.answered); by = began_by a b f fails.over cause (began a b f (Err f) refl ended); asked = last })

@@ -53,7 +53,8 @@ in_run from zero a low high = absurd (omega (arith, low, high))
 in_run from (suc n) a low high = elim (cases_Bool (from == a)) [
   | inl here ↦ rw here refl
   | inr off ↦
-      rw off (in_run (from + 1) n a (let other : (from ≡ a) → ⊥ = λ e. (let yes_ : (from == a) ≡ true = grind (arith, e) in let no_ : true ≡ false = sym yes_ ∙ off in cc) in omega (arith, low, other)) (omega (arith, high)))
+      rw off (in_run (from + 1) n a (let other : (from ≡ a) → ⊥ = λ e. (let yes_ : (from == a) ≡ true = grind (arith, e) in let no_ : true ≡ false = sym yes_ ∙ off in cc) in omega (arith, low, other))
+      (omega (arith, high)))
 ]
 
 pub aside_of : (from n a : ℕ) → is_in (range_with_len from n) a ≡ false → IsAside from (from + n) a

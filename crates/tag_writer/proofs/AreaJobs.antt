@@ -34,7 +34,8 @@ use Rattle.tlv_area.proofs.StoreForms.{t2_start}
 put_step : (how : How) (size : ℕ) (store : List ℕ) (s : Step) → length s.content.items ≡ block_size how size → put_into store (block_put how size s) ≡ after_step (block_size how size) store s
 put_step how size store s long = ap (λ n. take (block_size how size * s.block) store ++ s.content.items ++ drop (block_size how size * s.block + n) store) long
 
-after_blocks : (how : How) (size : ℕ) (base store : List ℕ) (ss : List Step) → AllByRecursion (IsWhole (block_size how size) base) ss → after_puts store (block_puts how size ss) ≡ after_steps (block_size how size) store ss
+after_blocks : (how : How) (size : ℕ) (base store : List ℕ) (ss : List Step) → AllByRecursion (IsWhole (block_size how size) base) ss
+    → after_puts store (block_puts how size ss) ≡ after_steps (block_size how size) store ss
 after_blocks how size base store [] all = refl
 after_blocks how size base store (s ∷ ss) all =
     ap (λ t. after_puts t (block_puts how size ss)) (put_step how size store s all.0.content)
@@ -196,7 +197,8 @@ serves T2 size m store message plan is =
     (subst (λ r. IsPlaceBy r store message (tail_place (message_tail is.t.at is.after) message)) (sym is.area) (holds T2 size m store message plan is))
     (subst (IsAccess T2 size store) is.writable (written_access T2 size store m.space is.area)) tt (m.space, is.area, area_puts T2 size m store message plan is)
     (block_ok T2 size 4 store (steps_of plan) (keeps T2 size m store message plan is).whole (low T2 size m store message plan is 4 (λ a in_. omega (arith, start, in_))))
-    (record { twice = twice_by T2 size m store message plan is (omega arith); once = once_by T2 size m store message plan is (omega arith); changed = other_by T2 size m store message plan is }) (home_by T2 size m store message plan is)
+    (record { twice = twice_by T2 size m store message plan is (omega arith); once = once_by T2 size m store message plan is (omega arith); changed = other_by T2 size m store message plan is })
+    (home_by T2 size m store message plan is)
 serves T4 size m store message plan is = absurd (let no_ = is.area in cc)
 serves (T5 id) size m store message plan is =
     let kind = is.kinds is.ts is.t is.after is.map' in
@@ -205,4 +207,5 @@ serves (T5 id) size m store message plan is =
     (subst (IsAccess (T5 id) size store) is.writable (written_access (T5 id) size store m.space is.area)) tt (m.space, is.area, area_puts (T5 id) size m store message plan is)
     (block_ok (T5 id) size 0 store (steps_of plan) (keeps (T5 id) size m store message plan is).whole (low (T5 id) size m store message plan is 0 (λ a in_. omega arith)))
     (let some : 0 < size = (let sized = size_of_block size is.store'.sized in omega (arith, sized.2)) in
-    record { twice = twice_by (T5 id) size m store message plan is some; once = once_by (T5 id) size m store message plan is some; changed = other_by (T5 id) size m store message plan is }) (home_by (T5 id) size m store message plan is)
+    record { twice = twice_by (T5 id) size m store message plan is some; once = once_by (T5 id) size m store message plan is some; changed = other_by (T5 id) size m store message plan is })
+    (home_by (T5 id) size m store message plan is)

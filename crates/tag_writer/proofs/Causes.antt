@@ -11,7 +11,8 @@ use Rattle.tag_writer.specs.declared.fault.WriteFault.TheVariants as fault
 use Rattle.tag_writer.specs.Faults.{IsWriteFault, IsToldOrMemory}
 use Rattle.tag_writer.specs.Planning.{of_read, IsDeclined}
 
-pub read_cause : (how : How) (size : ℕ) (message : List ℕ) (a b : LinkView) (e : ReadFault) → HasSurveyed how size a.state.store a b → reading.IsReadFault how size a.state.store a b e → IsWriteFault how size message a b (of_read e)
+pub read_cause : (how : How) (size : ℕ) (message : List ℕ) (a b : LinkView) (e : ReadFault) → HasSurveyed how size a.state.store a b → reading.IsReadFault how size a.state.store a b e
+    → IsWriteFault how size message a b (of_read e)
 read_cause how size message a b read.NotNdef asked is = is
 read_cause how size message a b read.Version asked is = is
 read_cause how size message a b read.NoRead asked is = is
@@ -26,7 +27,8 @@ read_cause how size message a b read.Memory asked (inl over) = inl (over, asked)
 read_cause how size message a b read.Memory asked (inr by) = inr by
 read_cause how size message a b read.Protocol asked is = is
 
-pub declined_cause : (how : How) (size : ℕ) (message : List ℕ) (a b : LinkView) (e : WriteFault) → b.over ≡ None → HasSurveyed how size a.state.store a b → IsDeclined how size a.state.store message e → IsWriteFault how size message a b e
+pub declined_cause : (how : How) (size : ℕ) (message : List ℕ) (a b : LinkView) (e : WriteFault) → b.over ≡ None → HasSurveyed how size a.state.store a b → IsDeclined how size a.state.store message e
+    → IsWriteFault how size message a b e
 declined_cause how size message a b fault.ReadOnly over asked is = is
 declined_cause how size message a b (fault.TooLong n) over asked is = is
 declined_cause how size message a b fault.ShortMlc over asked is = is

@@ -72,12 +72,14 @@ nth_of_run f a (suc n) (suc k) low = (let next : a + 1 + k ≡ a + suc k = omega
 pub count_of : (message : List ℕ) (most : ℕ) (close : Bool) → length (updates_in Emptied message most close) ≡ div_ceil (length message) most
 count_of message most close = length-map-range_with_len (piece_of update_command message most) 0 (div_ceil (length message) most)
 
-pub piece_is : (message : List ℕ) (most k : ℕ) (close : Bool) → k < length (updates_in Emptied message most close) → piece_of update_command message most k ≡ command_at (updates_in Emptied message most close) k
+pub piece_is : (message : List ℕ) (most k : ℕ) (close : Bool) → k < length (updates_in Emptied message most close)
+    → piece_of update_command message most k ≡ command_at (updates_in Emptied message most close) k
 piece_is message most k close low =
     let here : 0 + k ≡ k = omega arith in
     sym (nth_of_run (piece_of update_command message most) 0 (div_ceil (length message) most) k (omega (arith, low, count_of message most close)) ∙ ap (piece_of update_command message most) here)
 
-pub piece_fits : (message : List ℕ) (most k : ℕ) (close : Bool) → 1 ≤ most → most ≤ 255 → 2 + length message ≤ offset_end → k < length (updates_in Emptied message most close) → IsPieceAt message most k
+pub piece_fits : (message : List ℕ) (most k : ℕ) (close : Bool) → 1 ≤ most → most ≤ 255 → 2 + length message ≤ offset_end → k < length (updates_in Emptied message most close)
+    → IsPieceAt message most k
 piece_fits message most k close some few small low = record {
   some = some;
   most' = few;
@@ -85,12 +87,14 @@ piece_fits message most k close some few small low = record {
   small = small;
 }
 
-pub close_is : (message : List ℕ) (most k : ℕ) (close : Bool) → k < length (updates_in Prepared message most close) → update_command 0 (0 ∷ 0 ∷ []) ≡ command_at (updates_in Prepared message most close) k
+pub close_is : (message : List ℕ) (most k : ℕ) (close : Bool) → k < length (updates_in Prepared message most close)
+    → update_command 0 (0 ∷ 0 ∷ []) ≡ command_at (updates_in Prepared message most close) k
 close_is message most zero true low = refl
 close_is message most (suc k) true low = absurd (omega (arith, low))
 close_is message most k false low = absurd (omega (arith, low))
 
-pub last_is : (message : List ℕ) (most k : ℕ) (close : Bool) → k < length (updates_in Filled message most close) → update_command 0 (high_first (length message)) ≡ command_at (updates_in Filled message most close) k
+pub last_is : (message : List ℕ) (most k : ℕ) (close : Bool) → k < length (updates_in Filled message most close)
+    → update_command 0 (high_first (length message)) ≡ command_at (updates_in Filled message most close) k
 last_is message most k close low = by_length (length message == 0) k low
   where
     by_length : (v : Bool) (i : ℕ) → i < length (if v then [] else update_command 0 (high_first (length message)) ∷ []) →
@@ -116,7 +120,8 @@ file_commands Prepared store message most close brings closes = by_length (messa
     by_length true = refl
     by_length false = refl
 file_commands Emptied store message most close brings closes =
-    commands_run (piece_of (update_put store) message (most_brought store)) (piece_of update_command message (most_brought store)) (range_with_len 0 (div_ceil (length message) (most_brought store))) (λ k. refl)
+    commands_run (piece_of (update_put store) message (most_brought store)) (piece_of update_command message (most_brought store)) (range_with_len 0 (div_ceil (length message) (most_brought store)))
+    (λ k. refl)
     ∙ ap (λ m. updates_in Emptied message m close) (sym brings)
 file_commands Filled store message most close brings closes = by_length (length message == 0)
   where
@@ -170,6 +175,7 @@ updates_may Emptied v message most close k of few low =
 updates_may Filled v message most close k of few low =
     subst (λ c. MayAsk v.kind v.identifier c) (last_is message most k close low) (update_may v 0 (high_first (length message)) of (omega arith))
 
-pub work_may : (phase : Phase) (work : Work) (v : LinkView) (k : ℕ) → IsOf (how_of work) v → IsFit work → k < length (commands_at phase work) → MayAsk v.kind v.identifier (command_at (commands_at phase work) k)
+pub work_may : (phase : Phase) (work : Work) (v : LinkView) (k : ℕ) → IsOf (how_of work) v → IsFit work → k < length (commands_at phase work)
+    → MayAsk v.kind v.identifier (command_at (commands_at phase work) k)
 work_may phase (Blocks how plan) v k of fit low = steps_may how v (steps_at phase plan) k of (fit_at phase how plan fit) low
 work_may phase (File message most close) v k of fit low = updates_may phase v message most close k of fit.1.0 low

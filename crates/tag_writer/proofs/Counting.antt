@@ -1,5 +1,6 @@
 -- That the writes of a message are few.
-use Rattle.std.proofs.Common.{◌≡◌, ◌≢◌, inl, inr, ℕ, zero, suc, ◌+◌, ◌*◌, ◌/◌, ◌<◌, ◌≤◌, ◌==◌, Bool, true, false, if◌then◌else◌, List, [], ◌∷◌, ◌++◌, length, take, drop, map, slice_index, refl, sym, ◌∙◌, ap, subst, arith}
+use Rattle.std.proofs.Common.{◌≡◌, ◌≢◌, inl, inr, ℕ, zero, suc, ◌+◌, ◌*◌, ◌/◌, ◌<◌, ◌≤◌, ◌==◌, Bool, true, false, if◌then◌else◌, List, [], ◌∷◌, ◌++◌, length, take, drop, map, slice_index, refl, sym}
+use Rattle.std.proofs.Common.{◌∙◌, ap, subst, arith}
 use Rattle.std.specs.List.{AllByRecursion, range_with_len}
 use Rattle.std.specs.Int.{div_ceil}
 use Rattle.std.proofs.Math.Nat.{mul-div_cancel_left, mul-le-mul_left}
@@ -72,10 +73,12 @@ module _ (how : How) (size : ℕ) (some : 0 < block_size how size) where
         let less = few (a / block_size how size) (λ e. other (sym same ∙ ap (λ k. block_size how size * k) e)) in
         omega (arith, most, less))
     | inr off ↦
-        (let none = between a ss (λ e. (let yes_ : (block_size how size * (a / block_size how size) == a) ≡ true = grind (arith, e) in let no_ : true ≡ false = sym yes_ ∙ off in cc)) in omega (arith, none))
+        (let none = between a ss (λ e. (let yes_ : (block_size how size * (a / block_size how size) == a) ≡ true = grind (arith, e) in let no_ : true ≡ false = sym yes_ ∙ off in cc)) in
+        omega (arith, none))
   ]
 
-pub blocks_other : (how : How) (size : ℕ) (base store : List ℕ) (ss : List Step) → AllByRecursion (IsWhole (block_size how size) base) ss → EachChanges (block_size how size) store ss → EachIsOther store (block_puts how size ss)
+pub blocks_other : (how : How) (size : ℕ) (base store : List ℕ) (ss : List Step) → AllByRecursion (IsWhole (block_size how size) base) ss → EachChanges (block_size how size) store ss
+    → EachIsOther store (block_puts how size ss)
 blocks_other how size base store [] whole each = tt
 blocks_other how size base store (s ∷ ss) whole each =
     let block : ℕ = block_size how size in
@@ -128,10 +131,13 @@ module _ (store message : List ℕ) (some : 1 ≤ most_brought store) where
   home = (let first = get_or-range_with_len end (2 + length message) 0 0 (omega arith) in let same : end + 0 ≡ end = omega arith in first ∙ same)
 
   up : (j k : ℕ) → j < k → (piece_of (update_put store) message (most_brought store) j).at < (piece_of (update_put store) message (most_brought store) k).at
-  up j k low = (let next : suc j ≤ k = low in let more : most * suc j ≤ most * k = mul-le-mul_left most next in let step : most * suc j ≡ most * j + most = omega arith in omega (arith, more, step, some))
+  up j k low = (let next : suc j ≤ k = low in let more : most * suc j ≤ most * k = mul-le-mul_left most next in let step : most * suc j ≡ most * j + most = omega arith in
+      omega (arith, more, step, some))
 
-  parts : (a : ℕ) → writes_at a (all_puts (file_parts store message)) ≡ writes_at a (file_puts Prepared store message) + writes_at a (file_puts Emptied store message) + writes_at a (file_puts Filled store message)
-  parts a = writes_append a (file_puts Prepared store message ++ file_puts Emptied store message) (file_puts Filled store message) ∙ ap (λ n. n + writes_at a (file_puts Filled store message)) (writes_append a (file_puts Prepared store message) (file_puts Emptied store message))
+  parts : (a : ℕ) → writes_at a (all_puts (file_parts store message)) ≡ writes_at a (file_puts Prepared store message) + writes_at a (file_puts Emptied store message)
+      + writes_at a (file_puts Filled store message)
+  parts a = writes_append a (file_puts Prepared store message ++ file_puts Emptied store message) (file_puts Filled store message)
+      ∙ ap (λ n. n + writes_at a (file_puts Filled store message)) (writes_append a (file_puts Prepared store message) (file_puts Emptied store message))
 
   pub file_few : (size : ℕ) → AreFew T4 size store (file_place store message) (all_puts (file_parts store message))
   file_few size = record {

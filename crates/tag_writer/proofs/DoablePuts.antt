@@ -1,5 +1,6 @@
 -- The writes of a message that a store takes are such as the tag can do.
-use Rattle.std.proofs.Common.{◌≡◌, ℕ, ◌+◌, ◌-◌, ◌*◌, ◌/◌, ◌%◌, ◌<◌, ◌≤◌, inl, inr, ◌==◌, Bool, true, nat_lt, nat_le, List, [], ◌∷◌, ◌++◌, length, map, take, drop, take-append-drop, Option, Some, None, refl, sym, ◌∙◌, ap, subst, arith}
+use Rattle.std.proofs.Common.{◌≡◌, ℕ, ◌+◌, ◌-◌, ◌*◌, ◌/◌, ◌%◌, ◌<◌, ◌≤◌, inl, inr, ◌==◌, Bool, true, nat_lt, nat_le, List, [], ◌∷◌, ◌++◌, length, map, take, drop, take-append-drop, Option, Some, None}
+use Rattle.std.proofs.Common.{refl, sym, ◌∙◌, ap, subst, arith}
 use Rattle.std.specs.Prelude.{Result, Ok, Err}
 use Rattle.std.specs.List.{AllByRecursion, list_all, flat_map}
 use Rattle.std.proofs.lemmas.Bool.{cases_Bool, cases_lt, and_parts, ltb-true, leb-true}
@@ -117,7 +118,8 @@ module _ (how : How) (size : ℕ) (space : Space) (store message : List ℕ) (p 
     wholes : AllByRecursion IsWhole (steps_of are.plan)
     wholes =
         let front = all_front In (made are.plan.close ++ are.plan.fill) (made are.plan.last) rooms in
-        let closing : InStore (home block tail) → length (closed_block block tail store) ≡ block = λ room. length-set (block_of block store (home block tail)) _ _ ∙ long store (home block tail) refl room in
+        let closing : InStore (home block tail) → length (closed_block block tail store) ≡ block =
+        λ room. length-set (block_of block store (home block tail)) _ _ ∙ long store (home block tail) refl room in
         all_both IsWhole (made are.plan.close ++ are.plan.fill) (made are.plan.last)
         (all_both IsWhole (made are.plan.close) are.plan.fill
         (one are.plan.close (home block tail) _ _ are.is_plan.close closing (all_front In (made are.plan.close) are.plan.fill front))
@@ -137,7 +139,8 @@ module _ (how : How) (size : ℕ) (space : Space) (store message : List ℕ) (p 
       ∙ ap (λ ps. ps ++ block_puts how size (made are.plan.last)) (sym (map-append (block_put how size) (made are.plan.close) are.plan.fill))
       ∙ sym (map-append (block_put how size) (made are.plan.close ++ are.plan.fill) (made are.plan.last))
 
-  area_puts : (least : ℕ) → ((a : ℕ) → space.start ≤ a → a < space.end → (least ≤ a / block) × (block * (a / block) + block ≤ length store)) → AllByRecursion (IsBlockPut how size least store) (all_puts p)
+  area_puts : (least : ℕ) → ((a : ℕ) → space.start ≤ a → a < space.end → (least ≤ a / block) × (block * (a / block) + block ≤ length store))
+      → AllByRecursion (IsBlockPut how size least store) (all_puts p)
   area_puts least there = subst (AllByRecursion (IsBlockPut how size least store)) (sym puts_are) (puts least there (steps_of are.plan) (rooms least there) (wholes least there))
 
 -- an address of a store of whole blocks lies in one that the store has
@@ -174,7 +177,8 @@ room_for size store message is place takes =
 
 pub file_parts_are : (store message : List ℕ) (p : Parts) → AreFilePuts store message p → all_puts p ≡ all_puts (file_parts store message)
 file_parts_are store message p are =
-    ap (λ ps. (ps ++ p.fill) ++ p.last) are.close ∙ ap (λ ps. (file_puts Prepared store message ++ ps) ++ p.last) are.fill ∙ ap (λ ps. (file_puts Prepared store message ++ file_puts Emptied store message) ++ ps) are.last
+    ap (λ ps. (ps ++ p.fill) ++ p.last) are.close ∙ ap (λ ps. (file_puts Prepared store message ++ ps) ++ p.last) are.fill
+    ∙ ap (λ ps. (file_puts Prepared store message ++ file_puts Emptied store message) ++ ps) are.last
 
 pub doable_puts : (how : How) (size : ℕ) (store message : List ℕ) (place : Place) (p : Parts) → IsStore how size store → Takes how size store message place → ArePuts how size store message p →
     AllByRecursion (IsPutOf how size store) (all_puts p)

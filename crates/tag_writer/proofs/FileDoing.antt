@@ -66,7 +66,8 @@ updated base s p is like u =
     let there : container_end base ≡ length container = sym (end_is s ∙ like.end') in
     let whole : container ++ file ≡ s = take-append-drop (container_end s) s in
     let put : put_into s p ≡ container ++ file' =
-    ap (put_into s) u.put ∙ ap (λ t. put_into t (update_put base u.offset p.bytes)) (sym whole) ∙ put_file container file (container_end base) u.offset p.bytes (update_put base u.offset p.bytes).command there in
+    ap (put_into s) u.put ∙ ap (λ t. put_into t (update_put base u.offset p.bytes)) (sym whole)
+    ∙ put_file container file (container_end base) u.offset p.bytes (update_put base u.offset p.bytes).command there in
     let j : IsJoinedBy container file' (container ++ file') = other_file is.0 s file' is.1 long in
     subst (IsUpdated base) (sym put) (record { store' = j.store'; files = files_on base s (container ++ file') like (files_of s file' j long) })
 

@@ -135,7 +135,8 @@ module _ (store message : List ℕ) (is : IsRoomFor store message) where
   emptied : (n : ℕ) → IsEmptied T4 0 place store (after_puts store (file_puts Prepared store message ++ take n (file_puts Emptied store message)))
   emptied n =
       let s : List ℕ = after_puts store (file_puts Prepared store message ++ take n (file_puts Emptied store message)) in
-      let ok = all_both (IsPiece store message) (file_puts Prepared store message) (take n (file_puts Emptied store message)) close_ok (all_take (IsPiece store message) n (file_puts Emptied store message) fill_ok) in
+      let ok = all_both (IsPiece store message) (file_puts Prepared store message) (take n (file_puts Emptied store message)) close_ok
+      (all_take (IsPiece store message) n (file_puts Emptied store message) fill_ok) in
       let same : SameOutside place.span store s = outside (file_puts Prepared store message ++ take n (file_puts Emptied store message)) ok in
       let known = closing store message (omega (arith, brought)) (omega (arith, sized, facts.least, is.store'.1.whole)) n in
       record {

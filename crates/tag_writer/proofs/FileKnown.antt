@@ -21,17 +21,20 @@ file_there store message map' n k =
 room_is : (store message : List ℕ) (map' : FileMap) (n : ℕ) → IsKnownFile T4 store map' n → map'.size - 2 ≡ (file_place store message).room
 room_is store message map' n k = ap (λ m. m.size - 2) (named (container_in store) map' k.names).file
 
-pub file_too_long : (size : ℕ) (store message : List ℕ) (map' : FileMap) (n room : ℕ) → IsKnownFile T4 store map' n → map'.writable ≡ true → room ≡ map'.size - 2 → room < length message → IsTooLong T4 size store message room
+pub file_too_long : (size : ℕ) (store message : List ℕ) (map' : FileMap) (n room : ℕ) → IsKnownFile T4 store map' n → map'.writable ≡ true → room ≡ map'.size - 2 → room < length message
+    → IsTooLong T4 size store message room
 file_too_long size store message map' n room k free is long =
     (file_place store message, file_there store message map' n k, (map', k.names, sym free), is ∙ room_is store message map' n k, long)
 
-pub file_short : (size : ℕ) (store message : List ℕ) (map' : FileMap) (n : ℕ) → IsKnownFile T4 store map' n → map'.writable ≡ true → length message ≤ map'.size - 2 → map'.mlc < 2 → IsShort T4 size store message
+pub file_short : (size : ℕ) (store message : List ℕ) (map' : FileMap) (n : ℕ) → IsKnownFile T4 store map' n → map'.writable ≡ true → length message ≤ map'.size - 2 → map'.mlc < 2
+    → IsShort T4 size store message
 file_short size store message map' n k free fits short =
     let room = room_is store message map' n k in
     let brought = ap (λ m. m.mlc) (named (container_in store) map' k.names).file in
     (file_place store message, file_there store message map' n k, (map', k.names, sym free), omega (arith, fits, room), λ some. omega (arith, short, brought, some))
 
-planned_file : (size : ℕ) (store message : List ℕ) (map' : FileMap) (n most : ℕ) → IsFileStore store → IsKnownFile T4 store map' n → map'.writable ≡ true → length message ≤ map'.size - 2 → 2 ≤ map'.mlc →
+planned_file : (size : ℕ) (store message : List ℕ) (map' : FileMap) (n most : ℕ) → IsFileStore store → IsKnownFile T4 store map' n → map'.writable ≡ true → length message ≤ map'.size - 2
+    → 2 ≤ map'.mlc →
     most ≡ min map'.mlc 255 → IsPlannedFor T4 size store message (File message most (nat_lt 0 n))
 planned_file size store message map' n most is k free fits some brings =
     let facts : Named (container_in store) map' = named (container_in store) map' k.names in
@@ -59,7 +62,8 @@ planned_file size store message map' n most is k free fits some brings =
     above m = grind arith
 
 -- the message is copied
-pub file_planned : (size : ℕ) (store message copy : List ℕ) (map' : FileMap) (n most : ℕ) → copy ≡ message → IsFileStore store → IsKnownFile T4 store map' n → map'.writable ≡ true → length message ≤ map'.size - 2 → 2 ≤ map'.mlc →
+pub file_planned : (size : ℕ) (store message copy : List ℕ) (map' : FileMap) (n most : ℕ) → copy ≡ message → IsFileStore store → IsKnownFile T4 store map' n → map'.writable ≡ true
+    → length message ≤ map'.size - 2 → 2 ≤ map'.mlc →
     most ≡ min map'.mlc 255 → IsPlannedFor T4 size store message (File copy most (nat_lt 0 n))
 file_planned size store message copy map' n most same is k free fits some brings =
     subst (λ xs. IsPlannedFor T4 size store message (File xs most (nat_lt 0 n))) (sym same) (planned_file size store message map' n most is k free fits some brings)

@@ -46,7 +46,8 @@ pub front_empty : (phase : Phase) (j : WriteJob) → Serves j → (front rest : 
     IsEmptied j.how j.size j.place j.store (after_puts (after_puts j.store (made_at phase j)) (take (suc n) front))
 front_empty Prepared j s front rest p e n low = absurd (let none = (alone j.parts.close front rest p s.first e).0 in omega (arith, ap length none, low))
 front_empty Emptied j s front rest p e n low =
-    subst (λ ps. IsEmptied j.how j.size j.place j.store (after_puts (after_puts j.store j.parts.close) ps)) (take_some j.parts.fill front (p ∷ rest) (suc n) e (omega (arith, low))) (filled_empty j s (suc n))
+    subst (λ ps. IsEmptied j.how j.size j.place j.store (after_puts (after_puts j.store j.parts.close) ps)) (take_some j.parts.fill front (p ∷ rest) (suc n) e (omega (arith, low)))
+    (filled_empty j s (suc n))
 front_empty Filled j s front rest p e n low = absurd (let none = (alone j.parts.last front rest p s.last e).0 in omega (arith, ap length none, low))
 
 -- all of it, but behind the last phase
@@ -70,7 +71,8 @@ kind_next Emptied j x s front rest p e =
 kind_next Filled j x s front rest p e =
     let none = alone j.parts.last front rest p s.last e in
     let same : j.parts.last ≡ front ++ p ∷ [] = e ∙ ap (λ ps. front ++ p ∷ ps) none.1 in
-    New (subst (λ t. IsWritten j.how j.size j.message j.place j.store t) (after_append j.store (j.parts.close ++ j.parts.fill) j.parts.last ∙ ap (after_puts (after_puts j.store (j.parts.close ++ j.parts.fill))) same) s.new)
+    New (subst (λ t. IsWritten j.how j.size j.message j.place j.store t) (after_append j.store (j.parts.close ++ j.parts.fill) j.parts.last
+    ∙ ap (after_puts (after_puts j.store (j.parts.close ++ j.parts.fill))) same) s.new)
 
 -- what stands behind a front
 pub front_stands : (phase : Phase) (j : WriteJob) → Serves j → (front rest : List Put) (p : Put) → next_at phase j ≡ front ++ p ∷ rest → Stands phase j (after_puts j.store (made_at phase j ++ front))
@@ -80,4 +82,5 @@ front_stands Emptied j s front rest p e =
 front_stands Filled j s front rest p e =
     let none = (alone j.parts.last front rest p s.last e).0 in
     subst (λ ps. IsEmptied j.how j.size j.place j.store (after_puts j.store ps))
-    (ap (λ ps. j.parts.close ++ ps) (whole_take j.parts.fill) ∙ sym (append-nil (j.parts.close ++ j.parts.fill)) ∙ ap (λ ps. (j.parts.close ++ j.parts.fill) ++ ps) (sym none)) (s.empty (length j.parts.fill))
+    (ap (λ ps. j.parts.close ++ ps) (whole_take j.parts.fill) ∙ sym (append-nil (j.parts.close ++ j.parts.fill)) ∙ ap (λ ps. (j.parts.close ++ j.parts.fill) ++ ps) (sym none))
+    (s.empty (length j.parts.fill))

@@ -17,34 +17,41 @@ use Rattle.tag_writer.proofs.Tags.{IsUnder, state_behind, under_on}
 new_images : (P : List ℕ → Type 0) (b c : LinkView) (d : Signal) (o : Obeyed b c d) → P (b.step b.state d).after.store → AllByRecursion P (passed b.step b.state o.more)
 new_images P b c d o here = all_map (λ t. t ≡ (b.step b.state d).after.store) P (passed b.step b.state o.more) (λ t e. subst P (sym e) here) o.images'
 
-images_on : (j : WriteJob) (a b c : LinkView) (puts : List Put) (d : Signal) (s : Since j a b puts) (o : Obeyed b c d) → images a (s.more ++ o.more) ≡ (s.before ++ s.during) ++ passed b.step b.state o.more
+images_on : (j : WriteJob) (a b c : LinkView) (puts : List Put) (d : Signal) (s : Since j a b puts) (o : Obeyed b c d)
+    → images a (s.more ++ o.more) ≡ (s.before ++ s.during) ++ passed b.step b.state o.more
 images_on j a b c puts d s o =
     ap (λ ys. a.state.store ∷ ys) (passed_on a b c s.more o.more s.leads o.leads) ∙ ap (λ ys. ys ++ passed b.step b.state o.more) s.joined
 
 -- the view behind one command more, by the step at which the writing began
-state_on : (j : WriteJob) (a b c : LinkView) (puts : List Put) (p : Put) → Since j a b puts → Accepts j.how b c p.command → c.state ≡ after_all a.step (surveyed j.how a.state) (commands_of (puts ++ p ∷ []))
+state_on : (j : WriteJob) (a b c : LinkView) (puts : List Put) (p : Put) → Since j a b puts → Accepts j.how b c p.command
+    → c.state ≡ after_all a.step (surveyed j.how a.state) (commands_of (puts ++ p ∷ []))
 state_on j a b c puts p s x =
     x.0.state ∙ ap (λ st. (st b.state p.command).after) s.leads.step ∙ ap (λ t. (a.step t p.command).after) s.state
     ∙ sym (after_append a.step (surveyed j.how a.state) (commands_of puts) (p.command ∷ []))
     ∙ sym (ap (λ cs. after_all a.step (surveyed j.how a.state) cs) (commands_append puts (p ∷ [])))
 
-pub answer_at : (j : WriteJob) (a b : LinkView) (puts : List Put) (d : Signal) → Since j a b puts → (b.step b.state d).answer ≡ (a.step (after_all a.step (surveyed j.how a.state) (commands_of puts)) d).answer
+pub answer_at : (j : WriteJob) (a b : LinkView) (puts : List Put) (d : Signal) → Since j a b puts
+    → (b.step b.state d).answer ≡ (a.step (after_all a.step (surveyed j.how a.state) (commands_of puts)) d).answer
 answer_at j a b puts d s = ap (λ st. (st b.state d).answer) s.leads.step ∙ ap (λ t. (a.step t d).answer) s.state
 
-pub accepted_on : (j : WriteJob) (a b c : LinkView) (puts : List Put) (p : Put) → Since j a b puts → Accepts j.how b c p.command → refused_by j.how a.step (surveyed j.how a.state) (commands_of (puts ++ p ∷ [])) ≡ None
+pub accepted_on : (j : WriteJob) (a b c : LinkView) (puts : List Put) (p : Put) → Since j a b puts → Accepts j.how b c p.command
+    → refused_by j.how a.step (surveyed j.how a.state) (commands_of (puts ++ p ∷ [])) ≡ None
 accepted_on j a b c puts p s x =
-    let here : refusal_in j.how (a.step (after_all a.step (surveyed j.how a.state) (commands_of puts)) p.command).answer ≡ None = ap (refusal_in j.how) (sym (answer_at j a b puts p.command s)) ∙ x.1 in
+    let here : refusal_in j.how (a.step (after_all a.step (surveyed j.how a.state) (commands_of puts)) p.command).answer ≡ None =
+    ap (refusal_in j.how) (sym (answer_at j a b puts p.command s)) ∙ x.1 in
     ap (λ cs. refused_by j.how a.step (surveyed j.how a.state) cs) (commands_append puts (p ∷ []))
     ∙ refused_at j.how a.step (surveyed j.how a.state) (commands_of puts) p.command [] s.accepted
     ∙ rw here refl
 
 -- what was asked, with one command more
-pub answered_on : (j : WriteJob) (a b c : LinkView) (puts : List Put) (p : Put) → (s : Since j a b puts) → Accepts j.how b c p.command → c.answered ≡ a.answered ++ (s.read ++ commands_of (puts ++ p ∷ []))
+pub answered_on : (j : WriteJob) (a b c : LinkView) (puts : List Put) (p : Put) → (s : Since j a b puts) → Accepts j.how b c p.command
+    → c.answered ≡ a.answered ++ (s.read ++ commands_of (puts ++ p ∷ []))
 answered_on j a b c puts p s x =
     x.0.answered ∙ ap (λ ys. ys ++ p.command ∷ []) s.answered ∙ append_assoc a.answered (s.read ++ commands_of puts) (p.command ∷ [])
     ∙ ap (λ ys. a.answered ++ ys) (append_assoc s.read (commands_of puts) (p.command ∷ []) ∙ ap (λ ys. s.read ++ ys) (sym (commands_append puts (p ∷ []))))
 
-pub last_on : (j : WriteJob) (a b c : LinkView) (puts : List Put) (p : Put) → (s : Since j a b puts) → Accepts j.how b c p.command → c.last ≡ last_command a.last (s.read ++ commands_of (puts ++ p ∷ []))
+pub last_on : (j : WriteJob) (a b c : LinkView) (puts : List Put) (p : Put) → (s : Since j a b puts) → Accepts j.how b c p.command
+    → c.last ≡ last_command a.last (s.read ++ commands_of (puts ++ p ∷ []))
 last_on j a b c puts p s x =
     x.0.last ∙ sym (ap (λ cs. last_command a.last cs) (ap (λ ys. s.read ++ ys) (commands_append puts (p ∷ [])) ∙ sym (append_assoc s.read (commands_of puts) (p.command ∷ [])))
     ∙ last_snoc a.last (s.read ++ commands_of puts) p.command)
@@ -101,7 +108,8 @@ pub data Kinds (j : WriteJob) (before s : List ℕ) : Type 0 where
 abbrev pub Three : WriteJob → List (List ℕ) → Type 0
 Three j xs = PassInThree (λ s. s ≡ j.store) (IsEmptied j.how j.size j.place j.store) (IsWritten j.how j.size j.message j.place j.store) xs
 
-pub three_on : (j : WriteJob) (a b c : LinkView) (puts : List Put) (d : Signal) (s : Since j a b puts) (o : Obeyed b c d) → Kinds j b.state.store (b.step b.state d).after.store → Three j (images a (s.more ++ o.more))
+pub three_on : (j : WriteJob) (a b c : LinkView) (puts : List Put) (d : Signal) (s : Since j a b puts) (o : Obeyed b c d) → Kinds j b.state.store (b.step b.state d).after.store
+    → Three j (images a (s.more ++ o.more))
 three_on j a b c puts d s o (Same e) = by_now s.now
   where
     new : List (List ℕ)
@@ -123,7 +131,8 @@ three_on j a b c puts d s o (Same e) = by_now s.now
       behind = [];
       joined = images_on j a b c puts d s o ∙ append_assoc s.before s.during new ∙ ap (λ ys. s.before ++ ys) (sym (append-nil (s.during ++ new)));
       olds = s.olds;
-      empties = all_append (IsEmptied j.how j.size j.place j.store) s.during new s.empties (new_images (IsEmptied j.how j.size j.place j.store) b c d o (subst (IsEmptied j.how j.size j.place j.store) (sym e) empty));
+      empties = all_append (IsEmptied j.how j.size j.place j.store) s.during new s.empties (new_images (IsEmptied j.how j.size j.place j.store) b c d o
+          (subst (IsEmptied j.how j.size j.place j.store) (sym e) empty));
       news = tt;
     }
 three_on j a b c puts d s o (Empty here) =

@@ -44,7 +44,8 @@ blocks_fit T4 known message block m plan seen low keeps = absurd low
 blocks_fit (T5 id) known message block m plan seen low keeps = steps_any id (steps_of plan)
 
 -- what is heard of an area, or of a file, can be planned on
-pub area_low : (how : How) (a b : LinkView) (known : List ℕ) (block : ℕ) (m : AreaMap) (ps : List (List ℕ)) (ended : Bool) → IsHeard how a b ps ended → IsAreaHeard how ps ended known block m → IsPlacedArea known block m → IsLow how known block
+pub area_low : (how : How) (a b : LinkView) (known : List ℕ) (block : ℕ) (m : AreaMap) (ps : List (List ℕ)) (ended : Bool) → IsHeard how a b ps ended → IsAreaHeard how ps ended known block m
+    → IsPlacedArea known block m → IsLow how known block
 area_low T2 a b known block m ps ended heard is placed = (is.size', two_low a b ps ended known block m heard placed.area is)
 area_low T4 a b known block m ps false heard is placed = absurd (let no_area = is.area in cc)
 area_low T4 a b known block m ps true heard is placed = absurd heard.2
@@ -61,7 +62,8 @@ pub of_planned : (how : How) (message : List ℕ) (w : Work) (a b : LinkView) �
 of_planned how message w a b is p = subst (λ h. IsOf h b) (sym (work_kind how p.ground message w p.on)) (of_left how a b _ is p.surveyed.left)
 
 -- what planning on a ground tells
-pub planned_told : (how : How) (message : List ℕ) (a b : LinkView) (ground : Ground) (result : Result Prepared WriteFault) → IsSurveyedBy how a b ground → IfOk result (λ p. IsWorkOn how ground message p.work) →
+pub planned_told : (how : How) (message : List ℕ) (a b : LinkView) (ground : Ground) (result : Result Prepared WriteFault) → IsSurveyedBy how a b ground
+    → IfOk result (λ p. IsWorkOn how ground message p.work) →
     IfErr result (IsDeclinedOn ground message) → TellsPlan how message a b result
 planned_told how message a b ground (Ok p) surveyed on declined = record { ground = ground; surveyed = surveyed; on = on }
 planned_told how message a b ground (Err e) surveyed on declined = inr (record { ground = ground; surveyed = surveyed; declined = declined })

@@ -58,23 +58,27 @@ pub front_at : (phase : Phase) (j : WriteJob) (k : ℕ) → Serves j → (h : Ha
 front_at phase j k s h = all_front (IsPutOf j.how j.size j.store) (take k (next_at phase j)) (h.p ∷ h.rest) (subst (AllByRecursion (IsPutOf j.how j.size j.store)) h.split (next_all phase j s))
 
 -- what the tag does at it, where those before it were made
-pub can_at : (phase : Phase) (j : WriteJob) (work : Work) (a b : LinkView) (k : ℕ) → IsAt phase j work a → (h : HasNth (next_at phase j) k) → Makes j.how a (take k (next_at phase j)) b → CanDo j.how b h.p
+pub can_at : (phase : Phase) (j : WriteJob) (work : Work) (a b : LinkView) (k : ℕ) → IsAt phase j work a → (h : HasNth (next_at phase j) k) → Makes j.how a (take k (next_at phase j)) b
+    → CanDo j.how b h.p
 can_at phase j work a b k at h m =
     let under = under_makes j.how j.size j.store a b (take k (next_at phase j)) (under_at phase j work a at) (front_at phase j k at.serves h) m in
     can_do j.how j.size j.store b h.p under.tag under.near under.like (put_at phase j k at.serves h)
 
-pub answers_at : (phase : Phase) (j : WriteJob) (work : Work) (a b : LinkView) (k : ℕ) (c : Signal) (how : How) → IsAt phase j work a → k < length (next_at phase j) → Makes j.how a (take k (next_at phase j)) b → c ≡ signal_at (next_at phase j) k → how ≡ j.how → AnswersAs how (b.step b.state c).answer
+pub answers_at : (phase : Phase) (j : WriteJob) (work : Work) (a b : LinkView) (k : ℕ) (c : Signal) (how : How) → IsAt phase j work a → k < length (next_at phase j)
+    → Makes j.how a (take k (next_at phase j)) b → c ≡ signal_at (next_at phase j) k → how ≡ j.how → AnswersAs how (b.step b.state c).answer
 answers_at phase j work a b k c how at low m e kind =
     let h = nth_at phase j k low in
     subst (λ x. AnswersAs x (b.step b.state c).answer) (sym kind) (subst (λ f. AnswersAs j.how (b.step b.state f).answer) (sym (e ∙ h.signal)) (can_at phase j work a b k at h m).does.answers)
 
-pub makes_at : (phase : Phase) (j : WriteJob) (a b v : LinkView) (k : ℕ) (c : Signal) (how : How) → k < length (next_at phase j) → Makes j.how a (take k (next_at phase j)) b → c ≡ signal_at (next_at phase j) k → how ≡ j.how → Accepts how b v c → Makes j.how a (take (k + 1) (next_at phase j)) v
+pub makes_at : (phase : Phase) (j : WriteJob) (a b v : LinkView) (k : ℕ) (c : Signal) (how : How) → k < length (next_at phase j) → Makes j.how a (take k (next_at phase j)) b
+    → c ≡ signal_at (next_at phase j) k → how ≡ j.how → Accepts how b v c → Makes j.how a (take (k + 1) (next_at phase j)) v
 makes_at phase j a b v k c how low m e kind x =
     let h = nth_at phase j k low in
     let y : Accepts j.how b v h.p.command = subst (λ f. Accepts j.how b v f) (e ∙ h.signal) (subst (λ y. Accepts y b v c) kind x) in
     subst (λ ps. Makes j.how a ps v) (sym h.more) (makes_more j.how a b v (take k (next_at phase j)) h.p m y)
 
-pub breaks_at : (phase : Phase) (j : WriteJob) (a b v : LinkView) (k : ℕ) (c : Signal) (how : How) (e : WriteFault) → k < length (next_at phase j) → Makes j.how a (take k (next_at phase j)) b → c ≡ signal_at (next_at phase j) k → how ≡ j.how → FailsBy how b v c e → BreaksOff j.how a (next_at phase j) v e
+pub breaks_at : (phase : Phase) (j : WriteJob) (a b v : LinkView) (k : ℕ) (c : Signal) (how : How) (e : WriteFault) → k < length (next_at phase j) → Makes j.how a (take k (next_at phase j)) b
+    → c ≡ signal_at (next_at phase j) k → how ≡ j.how → FailsBy how b v c e → BreaksOff j.how a (next_at phase j) v e
 breaks_at phase j a b v k c how e low m is kind x =
     let h = nth_at phase j k low in
     record {

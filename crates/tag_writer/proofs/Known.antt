@@ -26,7 +26,8 @@ pub record HasBlock (block end : ℕ) : Type 0 where
 joined : (known store : List ℕ) → known ≡ take (length known) store → known ++ drop (length known) store ≡ store
 joined known store e = ap (λ xs. xs ++ drop (length known) store) e ∙ take-append-drop (length known) store
 
-pub planned : (how : How) (size : ℕ) (store known message : List ℕ) (block : ℕ) (m : AreaMap) (plan : Plan) → IsStore how size store → IsKnownArea how size store known block m → m.space.writable ≡ true →
+pub planned : (how : How) (size : ℕ) (store known message : List ℕ) (block : ℕ) (m : AreaMap) (plan : Plan) → IsStore how size store → IsKnownArea how size store known block m
+    → m.space.writable ≡ true →
     length message ≤ capacity_of (map_room m) → ((more : List ℕ) → GivesPlan block m (known ++ more) message plan × KeepsPlan block m (known ++ more) message plan) →
     ((more : List ℕ) → KeepsKinds block m (known ++ more) message plan) → IsPlanned how size m store message plan
 planned how size store known message block m plan is k free fits front form =
@@ -65,12 +66,16 @@ pub record HasPlace (how : How) (size : ℕ) (store message : List ℕ) (room : 
   pub there : IsPlaceIn how size store message place
   pub room' : room ≡ place.room
 
-place_by : (how : How) (size : ℕ) (store message known : List ℕ) (block : ℕ) (m : AreaMap) → (k : IsKnownArea how size store known block m) → (place : Place) × IsAreaPlace m.space store message place × (capacity_of (map_room m) ≡ place.room)
+place_by : (how : How) (size : ℕ) (store message known : List ℕ) (block : ℕ) (m : AreaMap) → (k : IsKnownArea how size store known block m)
+    → (place : Place) × IsAreaPlace m.space store message place × (capacity_of (map_room m) ≡ place.room)
 place_by how size store message known block m k =
     let found = k.found in
     let is : IsMap store m found.1 found.2 found.3 = found.4 in
-    let tail : List ℕ = message_tail found.2.at found.3 in
-    (tail_place tail message, record { ts = found.1; t = found.2; after = found.3; layout = is.layout; lies = is.lies; kind = is.message; place' = refl }, ap capacity_of (room_is m store found.1 found.2 found.3 is))
+    let tail : List ℕ = message_tail found.2.at found.3 in (
+      tail_place tail message,
+      record { ts = found.1; t = found.2; after = found.3; layout = is.layout; lies = is.lies; kind = is.message; place' = refl },
+      ap capacity_of (room_is m store found.1 found.2 found.3 is),
+    )
 
 pub has_place : (how : How) (size : ℕ) (store message known : List ℕ) (block : ℕ) (m : AreaMap) → IsKnownArea how size store known block m → HasPlace how size store message (capacity_of (map_room m))
 has_place T2 size store message known block m k =
@@ -81,15 +86,18 @@ has_place (T5 id) size store message known block m k =
     let h = place_by (T5 id) size store message known block m k in
     record { place = h.0; there = subst (λ r. IsPlaceBy r store message h.0) (sym k.area) h.1; room' = h.2 }
 
-pub has_access : (how : How) (size : ℕ) (store known : List ℕ) (block : ℕ) (m : AreaMap) (free : Bool) → IsKnownArea how size store known block m → m.space.writable ≡ free → IsAccess how size store free
+pub has_access : (how : How) (size : ℕ) (store known : List ℕ) (block : ℕ) (m : AreaMap) (free : Bool) → IsKnownArea how size store known block m → m.space.writable ≡ free
+    → IsAccess how size store free
 has_access how size store known block m free k e = subst (IsAccess how size store) e (written_access how size store m.space k.area)
 
-pub read_only : (how : How) (size : ℕ) (store message known : List ℕ) (block : ℕ) (m : AreaMap) → IsKnownArea how size store known block m → m.space.writable ≡ false → IsReadOnly how size store message
+pub read_only : (how : How) (size : ℕ) (store message known : List ℕ) (block : ℕ) (m : AreaMap) → IsKnownArea how size store known block m → m.space.writable ≡ false
+    → IsReadOnly how size store message
 read_only how size store message known block m k e =
     let h = has_place how size store message known block m k in
     ((h.place, h.there), has_access how size store known block m false k e)
 
-pub too_long : (how : How) (size : ℕ) (store message known : List ℕ) (block : ℕ) (m : AreaMap) (n : ℕ) → IsKnownArea how size store known block m → m.space.writable ≡ true → n ≡ capacity_of (map_room m) → n < length message → IsTooLong how size store message n
+pub too_long : (how : How) (size : ℕ) (store message known : List ℕ) (block : ℕ) (m : AreaMap) (n : ℕ) → IsKnownArea how size store known block m → m.space.writable ≡ true
+    → n ≡ capacity_of (map_room m) → n < length message → IsTooLong how size store message n
 too_long how size store message known block m n k e same long =
     let h = has_place how size store message known block m k in
     (h.place, h.there, has_access how size store known block m true k e, same ∙ h.room', long)

@@ -1,5 +1,6 @@
 -- A tag refuses the writes of a message that it takes exactly where one of them goes to a locked block.
-use Rattle.std.proofs.Common.{◌≡◌, ℕ, ◌+◌, ◌*◌, ◌/◌, ◌<◌, ◌≤◌, ◌==◌, nat_le, nat_lt, ◌&&◌, ◌||◌, not, Bool, true, false, if◌then◌else◌, List, [], ◌∷◌, length, Option, Some, None, refl, sym, ◌∙◌, ap, subst, arith}
+use Rattle.std.proofs.Common.{◌≡◌, ℕ, ◌+◌, ◌*◌, ◌/◌, ◌<◌, ◌≤◌, ◌==◌, nat_le, nat_lt, ◌&&◌, ◌||◌, not, Bool, true, false, if◌then◌else◌, List, [], ◌∷◌, length, Option, Some, None, refl, sym, ◌∙◌, ap}
+use Rattle.std.proofs.Common.{subst, arith}
 use Rattle.std.specs.Prelude.{is_some, get_or, Ok, Err}
 use Rattle.std.specs.List.{AllByRecursion}
 use Rattle.std.proofs.Math.Nat.{mul-div_cancel_left}
@@ -63,7 +64,8 @@ t2_told locked s step long behind within =
     ∙ t2_by (is_writable (t2_memory locked s) step.block) (get_or locked step.block false) (t2_free locked s step.block behind within)
 
 -- A Type 5 tag does so of a whole block that it has.
-t5_by : (id : List ℕ) (t : T5State) (block : ℕ) (content : List ℕ) → block < block_count t → length content ≡ t.size → refusal_in (T5 id) (sent (write_turn t block content).answer) ≡ refusal_if (T5 id) (is_locked t block)
+t5_by : (id : List ℕ) (t : T5State) (block : ℕ) (content : List ℕ) → block < block_count t → length content ≡ t.size
+    → refusal_in (T5 id) (sent (write_turn t block content).answer) ≡ refusal_if (T5 id) (is_locked t block)
 t5_by id t block content there long =
     let P : T5Turn → Type 0 = λ r. refusal_in (T5 id) (sent r.answer) ≡ refusal_if (T5 id) (is_locked t block) in
     let here : nat_le (block_count t) block ≡ false = grind (arith, there) in
@@ -165,7 +167,8 @@ all_told how size locked base step s (p ∷ ps) steps near like all =
     rest = refused_by how step (step s p.command).after (commands_of ps)
 
     by_lock : (l : Bool) → is_locked_put how size locked p ≡ l → refused_by how step (record s { store = put_into s.store p }) (commands_of ps) ≡ refusal_if how (has_locked how size locked ps) →
-        (if is_some (refusal_in how (step s p.command).answer) then refusal_in how (step s p.command).answer else rest) ≡ refusal_if how (is_locked_put how size locked p || has_locked how size locked ps)
+        (if is_some (refusal_in how (step s p.command).answer) then refusal_in how (step s p.command).answer else rest)
+        ≡ refusal_if how (is_locked_put how size locked p || has_locked how size locked ps)
     by_lock true e later =
         let code = code_of how size locked p e in
         ap (λ o. if is_some o then o else rest) (this.told ∙ ap (refusal_if how) e ∙ code.1) ∙ sym code.1 ∙ sym (ap (λ l. refusal_if how (l || has_locked how size locked ps)) e)
@@ -186,7 +189,8 @@ like_surveyed T2 size s is = like_itself T2 size s.store is
 like_surveyed T4 size s is = like_itself T4 size s.store is
 like_surveyed (T5 id) size s is = like_itself (T5 id) size s.store is
 
-pub unlocked_is_done : (how : How) (size : ℕ) (locked : List Bool) (step : TagState → Signal → TagStep) (s : TagState) (message : List ℕ) (place : Place) (parts : Parts) → StepsBy how size locked step →
+pub unlocked_is_done : (how : How) (size : ℕ) (locked : List Bool) (step : TagState → Signal → TagStep) (s : TagState) (message : List ℕ) (place : Place) (parts : Parts) → StepsBy how size locked step
+    →
     IsStore how size s.store → Takes how size s.store message place → ArePuts how size s.store message parts →
     refused_by how step (surveyed how s) (commands_of (all_puts parts)) ≡ refusal_if how (has_locked how size locked (all_puts parts))
 unlocked_is_done how size locked step s message place parts steps is takes are =
@@ -211,13 +215,15 @@ free_is_done how size locked step s message steps is free =
     }
 
 -- And a refusal tells of a locked one.
-pub refused_is_locked : (how : How) (size : ℕ) (locked : List Bool) (step : TagState → Signal → TagStep) (s : TagState) (message : List ℕ) (code : ℕ) → StepsBy how size locked step → IsStore how size s.store →
+pub refused_is_locked : (how : How) (size : ℕ) (locked : List Bool) (step : TagState → Signal → TagStep) (s : TagState) (message : List ℕ) (code : ℕ) → StepsBy how size locked step
+    → IsStore how size s.store →
     IsOutcome how size step s message (Err (fault.Refused code)) → IsLockedFor how size locked s.store message code
 refused_is_locked how size locked step s message code steps is w =
     by_lock (has_locked how size locked (all_puts w.parts)) refl
     (sym (unlocked_is_done how size locked step s message w.place w.parts steps is w.takes w.are) ∙ w.refused)
   where
-    by_lock : (l : Bool) → has_locked how size locked (all_puts w.parts) ≡ l → refusal_if how (has_locked how size locked (all_puts w.parts)) ≡ Some code → IsLockedFor how size locked s.store message code
+    by_lock : (l : Bool) → has_locked how size locked (all_puts w.parts) ≡ l → refusal_if how (has_locked how size locked (all_puts w.parts)) ≡ Some code
+        → IsLockedFor how size locked s.store message code
     by_lock true e told = record {
       code' = sym (ap (refusal_if how) e) ∙ told;
       held = λ parts are. ap (λ p. has_locked how size locked (all_puts p)) (one_parts how size s.store message parts w.parts are w.are) ∙ e;

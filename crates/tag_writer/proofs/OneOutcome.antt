@@ -67,14 +67,16 @@ placed_by (Ok space) store old message form = (
   record { ts = form.0; t = form.1; after = form.2; layout = form.3; lies = form.4; kind = form.5; place' = refl },
 )
 
-file_by : (r : Result FileMap ContainerFault) (store old message : List ℕ) → t4_container (container_in store) ≡ r → Message old ≡ file_form r (file_in store) → (place : Place) × IsFilePlace store message place
+file_by : (r : Result FileMap ContainerFault) (store old message : List ℕ) → t4_container (container_in store) ≡ r → Message old ≡ file_form r (file_in store)
+    → (place : Place) × IsFilePlace store message place
 file_by (Err f) store old message names form = absurd cc
 file_by (Ok map') store old message names form = (
   file_place store message,
   record { map' = map'; names = names; held = by_test (nat_lt (map'.size - 2) (message_length (file_in store))) refl form; place' = refl },
 )
   where
-    by_test : (v : Bool) → nat_lt (map'.size - 2) (message_length (file_in store)) ≡ v → Message old ≡ (if v then BadTlv else Message (message_in (file_in store))) → message_length (file_in store) ≤ map'.size - 2
+    by_test : (v : Bool) → nat_lt (map'.size - 2) (message_length (file_in store)) ≡ v → Message old ≡ (if v then BadTlv else Message (message_in (file_in store)))
+        → message_length (file_in store) ≤ map'.size - 2
     by_test true e f = absurd cc
     by_test false e f = grind (arith, e)
 
@@ -187,7 +189,8 @@ module _ (how : How) (size : ℕ) (step : TagState → Signal → TagStep) (s : 
   one_outcome r q is a b = one_outcome_by r q (one_store_form how size s.store is) a b
 
 -- what a write tells that isn't its link's is its outcome
-pub told_outcome : (how : How) (size : ℕ) (message : List ℕ) (a b : LinkView) (e : WriteFault) → is_told e ≡ true → IsWriteFault how size message a b e → IsOutcome how size a.step a.state message (Err e)
+pub told_outcome : (how : How) (size : ℕ) (message : List ℕ) (a b : LinkView) (e : WriteFault) → is_told e ≡ true → IsWriteFault how size message a b e
+    → IsOutcome how size a.step a.state message (Err e)
 told_outcome how size message a b fault.NotNdef t is = is
 told_outcome how size message a b fault.Version t is = is
 told_outcome how size message a b fault.NoRead t is = is

@@ -48,7 +48,8 @@ stops_here store t after lies kind = subst Stops (sym (next_there store t after 
 by_area : (r : Result Space ContainerFault) (store message : List ℕ) (p q : Place) → IsPlaceBy r store message p → IsPlaceBy r store message q → p ≡ q
 by_area (Err f) store message p q a b = absurd a
 by_area (Ok space) store message p q a b =
-    let one = one_layout space store (order_of space store message p a) a.ts b.ts (a.t.at ++ a.after) (b.t.at ++ b.after) a.layout (stops_here store a.t a.after a.lies a.kind) b.layout (stops_here store b.t b.after b.lies b.kind) in
+    let one = one_layout space store (order_of space store message p a) a.ts b.ts (a.t.at ++ a.after) (b.t.at ++ b.after) a.layout (stops_here store a.t a.after a.lies a.kind) b.layout
+    (stops_here store b.t b.after b.lies b.kind) in
     a.place' ∙ ap (λ rest. tail_place (drop 1 rest) message) one.1 ∙ sym b.place'
 
 pub one_place : (how : How) (size : ℕ) (store message : List ℕ) (p q : Place) → IsPlaceIn how size store message p → IsPlaceIn how size store message q → p ≡ q
@@ -107,7 +108,8 @@ pub access_once : (how : How) (size : ℕ) (store : List ℕ) → IsAccess how s
 access_once how size store a b = let no_ : true ≡ false = one_access how size store true false a b in cc
 
 -- a fault that a survey tells
-pub read_takes_not : (how : How) (size : ℕ) (message : List ℕ) (a b : LinkView) (e : ReadFault) → IsReadFault how size a.state.store a b e → is_told (of_read e) ≡ true → TakesNot how size a.state.store message
+pub read_takes_not : (how : How) (size : ℕ) (message : List ℕ) (a b : LinkView) (e : ReadFault) → IsReadFault how size a.state.store a b e → is_told (of_read e) ≡ true
+    → TakesNot how size a.state.store message
 read_takes_not how size message a b read.NotNdef is t = (excludes how size a.state.store message).faulty _ is
 read_takes_not how size message a b read.Version is t = (excludes how size a.state.store message).faulty _ is
 read_takes_not how size message a b read.NoRead is t = (excludes how size a.state.store message).faulty _ is

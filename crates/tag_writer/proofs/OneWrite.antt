@@ -73,7 +73,8 @@ parts_are p q close fill last =
 
 one_area : (how : How) (size : ℕ) (space : Space) (store message : List ℕ) (p q : Parts) → AreAreaPuts how size space store message p → AreAreaPuts how size space store message q → p ≡ q
 one_area how size space store message p q a b =
-    let place : IsAreaPlace space store message (tail_place (message_tail a.t.at a.after) message) = record { ts = a.ts; t = a.t; after = a.after; layout = a.layout; lies = a.lies; kind = a.kind; place' = refl } in
+    let place : IsAreaPlace space store message (tail_place (message_tail a.t.at a.after) message) =
+    record { ts = a.ts; t = a.t; after = a.after; layout = a.layout; lies = a.lies; kind = a.kind; place' = refl } in
     let one = one_layout space store (order_of space store message _ place) a.ts b.ts (a.t.at ++ a.after) (b.t.at ++ b.after)
     a.layout (stops_here store a.t a.after a.lies a.kind) b.layout (stops_here store b.t b.after b.lies b.kind) in
     let tail : message_tail b.t.at b.after ≡ message_tail a.t.at a.after = sym (ap (λ rest. drop 1 rest) one.1) in
@@ -99,7 +100,8 @@ one_parts (T5 id) size store message p q a b =
     one_area (T5 id) size a.0 store message p q a.2 (subst (λ s. AreAreaPuts (T5 id) size s store message q) (same_space b.0 a.0 (sym b.1 ∙ a.1)) b.2)
 
 -- the commands of the writes, none where the store doesn't take the message
-pub one_commands : (how : How) (size : ℕ) (store message : List ℕ) (p q : Parts) → AreWrites how size store message p → AreWrites how size store message q → commands_of (all_puts p) ≡ commands_of (all_puts q)
+pub one_commands : (how : How) (size : ℕ) (store message : List ℕ) (p q : Parts) → AreWrites how size store message p → AreWrites how size store message q
+    → commands_of (all_puts p) ≡ commands_of (all_puts q)
 one_commands how size store message p q a b = elim (lists signals (commands_of (all_puts p)) (commands_of (all_puts q))) [
   | inl same ↦ same
   | inr other ↦
@@ -107,7 +109,8 @@ one_commands how size store message p q a b = elim (lists signals (commands_of (
       ap commands_of (a.none not_ ∙ sym (b.none not_)))
 ]
 
-pub one_write : (how : How) (size : ℕ) (step : TagState → Signal → TagStep) (s : TagState) (message : List ℕ) (xs ys : List Signal) → IsWriteAsked how size step s message xs → IsWriteAsked how size step s message ys → xs ≡ ys
+pub one_write : (how : How) (size : ℕ) (step : TagState → Signal → TagStep) (s : TagState) (message : List ℕ) (xs ys : List Signal) → IsWriteAsked how size step s message xs
+    → IsWriteAsked how size step s message ys → xs ≡ ys
 one_write how size step s message xs ys a b =
     let read : a.read ≡ b.read = one_list_for ToWrite how size s.store a.read b.read a.all b.all in
     let commands = one_commands how size s.store message a.parts b.parts a.writes b.writes in
@@ -115,6 +118,7 @@ one_write how size step s message xs ys a b =
     ∙ ap (λ cs. b.read ++ up_to_refused how step (surveyed how s) cs) commands ∙ sym b.list
 
 -- the code by which the tag refuses, where it does
-pub one_refusal : (how : How) (size : ℕ) (step : TagState → Signal → TagStep) (s : TagState) (message : List ℕ) (c d : Option ℕ) → Writes how size step s message c → Writes how size step s message d → c ≡ d
+pub one_refusal : (how : How) (size : ℕ) (step : TagState → Signal → TagStep) (s : TagState) (message : List ℕ) (c d : Option ℕ) → Writes how size step s message c → Writes how size step s message d
+    → c ≡ d
 one_refusal how size step s message c d a b =
     sym a.refused ∙ ap (λ p. refused_by how step (surveyed how s) (commands_of (all_puts p))) (one_parts how size s.store message a.parts b.parts a.are b.are) ∙ b.refused

@@ -52,7 +52,8 @@ module _ (work : Work) where
     calm = λ j x at since calm. h.calm j (r.ok j at) (still j x v b j.parts.close (r.since j x at since) h.rises calm);
   }
 
-  pub ends_third : {A : Type 0} (a v x b : LinkView) (result : Result A Stopped) → HasReached Prepared work a v → HasReached Emptied work v x → EndsPhase Filled work x b result → EndsWork work a b result
+  pub ends_third : {A : Type 0} (a v x b : LinkView) (result : Result A Stopped) → HasReached Prepared work a v → HasReached Emptied work v x → EndsPhase Filled work x b result
+      → EndsWork work a b result
   ends_third a v x b (Ok y) p q h = record {
     told = acknowledged_on how a x b (first ++ second) third (acknowledged_on how a v x first second p.told q.told) h.told;
     ok = λ j w at since. h.since j w (q.ok j (p.ok j at)).0 (q.since j w (p.ok j at) (p.since j w at since));

@@ -30,12 +30,14 @@ use Rattle.tag_writer.proofs.Going.{since_makes, three_on, Three, New, last_imag
 use Rattle.tag_writer.proofs.Fronts.{next_empty}
 
 -- the store behind the writes that follow a phase
-pub store_next : (phase : Phase) (j : WriteJob) (work : Work) (old new : LinkView) → IsAt phase j work old → Makes j.how old (next_at phase j) new → new.state.store ≡ after_puts j.store (made_at phase j ++ next_at phase j)
+pub store_next : (phase : Phase) (j : WriteJob) (work : Work) (old new : LinkView) → IsAt phase j work old → Makes j.how old (next_at phase j) new
+    → new.state.store ≡ after_puts j.store (made_at phase j ++ next_at phase j)
 store_next phase j work old new at m =
     store_makes j.how j.size j.store old new (next_at phase j) (under_at phase j work old at) (next_all phase j at.serves) m
     ∙ ap (λ s. after_puts s (next_at phase j)) at.store ∙ sym (after_append j.store (made_at phase j) (next_at phase j))
 
-pub at_next : (phase next : Phase) (j : WriteJob) (work : Work) (old new : LinkView) → made_at next j ≡ made_at phase j ++ next_at phase j → IsAt phase j work old → Makes j.how old (next_at phase j) new → IsAt next j work new
+pub at_next : (phase next : Phase) (j : WriteJob) (work : Work) (old new : LinkView) → made_at next j ≡ made_at phase j ++ next_at phase j → IsAt phase j work old
+    → Makes j.how old (next_at phase j) new → IsAt next j work new
 at_next phase next j work old new same at m =
     let under = under_makes j.how j.size j.store old new (next_at phase j) (under_at phase j work old at) (next_all phase j at.serves) m in
     record {
@@ -46,7 +48,8 @@ at_next phase next j work old new same at m =
       store = store_next phase j work old new at m ∙ ap (after_puts j.store) (sym same);
     }
 
-pub since_next : (phase : Phase) (j : WriteJob) (work : Work) (a old new : LinkView) → (phase ≡ Filled → ⊥) → IsAt phase j work old → Since j a old (made_at phase j) → Makes j.how old (next_at phase j) new → Since j a new (made_at phase j ++ next_at phase j)
+pub since_next : (phase : Phase) (j : WriteJob) (work : Work) (a old new : LinkView) → (phase ≡ Filled → ⊥) → IsAt phase j work old → Since j a old (made_at phase j)
+    → Makes j.how old (next_at phase j) new → Since j a new (made_at phase j ++ next_at phase j)
 since_next phase j work a old new not at since m =
     since_makes j a old new (made_at phase j) (next_at phase j) since (under_at phase j work old at) (next_all phase j at.serves) m
     (λ n low. subst (λ t. IsEmptied j.how j.size j.place j.store (after_puts t (take (suc n) (next_at phase j)))) (sym at.store) (next_empty phase j at.serves not n low))
@@ -67,7 +70,8 @@ same_elsewhere j serves a aside =
     long : length front ≡ length j.store
     long = (like_puts j.how j.size j.store j.store (j.parts.close ++ j.parts.fill) (made_all Emptied j serves) (like_itself j.how j.size j.store serves.store')).long
 
-    by_last : (ps : List Put) → length ps ≤ 1 → AllByRecursion (IsHomePut j.how j.size j.place) ps → AllByRecursion (IsPutOf j.how j.size j.store) ps → slice_index front a ≡ slice_index (after_puts front ps) a
+    by_last : (ps : List Put) → length ps ≤ 1 → AllByRecursion (IsHomePut j.how j.size j.place) ps → AllByRecursion (IsPutOf j.how j.size j.store) ps
+        → slice_index front a ≡ slice_index (after_puts front ps) a
     by_last [] few home ok = refl
     by_last (p ∷ []) few home ok =
         let at : p.at ≡ home_at j.how j.size j.place = home.0.0 in
@@ -152,7 +156,8 @@ reaches Prepared j work old new at m = at_next Prepared Emptied j work old new r
 reaches Emptied j work old new at m = (let next = at_next Emptied Filled j work old new refl at m in (next, same_filled j work new next))
 reaches Filled j work old new at m = written_at j work old new at m
 
-pub reaches_since : (phase : Phase) (j : WriteJob) (work : Work) (a old new : LinkView) → IsAt phase j work old → Since j a old (made_at phase j) → Makes j.how old (next_at phase j) new → ReachesSince phase j a new
+pub reaches_since : (phase : Phase) (j : WriteJob) (work : Work) (a old new : LinkView) → IsAt phase j work old → Since j a old (made_at phase j) → Makes j.how old (next_at phase j) new
+    → ReachesSince phase j a new
 reaches_since Prepared j work a old new at since m = since_next Prepared j work a old new (λ e. cc) at since m
 reaches_since Emptied j work a old new at since m = since_next Emptied j work a old new (λ e. cc) at since m
 reaches_since Filled j work a old new at since m = opened_at j work a old new at since m

@@ -89,7 +89,8 @@ IsBlocks T2 size store = IsT2Store store
 IsBlocks T4 size store = Unit {0}
 IsBlocks (T5 id) size store = Unit {0}
 
-two_parts : (size : ℕ) (store message : List ℕ) (place : Place) → IsT2Store store → (r : Result Space ContainerFault) → written_area T2 size store ≡ r → IsPlaceBy r store message place → length message ≤ place.room
+two_parts : (size : ℕ) (store message : List ℕ) (place : Place) → IsT2Store store → (r : Result Space ContainerFault) → written_area T2 size store ≡ r → IsPlaceBy r store message place
+    → length message ≤ place.room
     → (p : Parts) × ArePuts T2 size store message p
 two_parts size store message place is (Err f) has there fits = absurd there
 two_parts size store message place is (Ok space) has there fits =

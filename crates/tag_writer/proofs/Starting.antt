@@ -41,7 +41,8 @@ last_is how size store a (suc n) = sym (last_snoc a.last (first how size store n
 same_count : (before xs ys : List Signal) → before ++ xs ≡ before ++ ys → length xs ≡ length ys
 same_count before xs ys e = omega (arith, length-append before xs, length-append before ys, ap length e)
 
-last_told : (how : How) (size : ℕ) (store : List ℕ) (a b : LinkView) → (asked : HasSurveyed how size store a b) → (whole : HasSurveyedAll how size store a b) → b.last ≡ last_command a.last whole.commands
+last_told : (how : How) (size : ℕ) (store : List ℕ) (a b : LinkView) → (asked : HasSurveyed how size store a b) → (whole : HasSurveyedAll how size store a b)
+    → b.last ≡ last_command a.last whole.commands
 last_told how size store a b asked whole =
     let counts : asked.count ≡ whole.all.count =
     sym (length_first how size store asked.count)
@@ -82,11 +83,13 @@ near_told T2 s t e = tt
 near_told T4 s t e = (ap (λ x. x.selected) e, ap (λ x. x.file) e)
 near_told (T5 id) s t e = tt
 
-told_for : (how : How) (size : ℕ) (store message : List ℕ) (work : Work) (a b : LinkView) → IsTold how size store a b → (p : IsPlannedFor how size store message work) → IsTold p.job.how p.job.size p.job.store a b
+told_for : (how : How) (size : ℕ) (store message : List ℕ) (work : Work) (a b : LinkView) → IsTold how size store a b → (p : IsPlannedFor how size store message work)
+    → IsTold p.job.how p.job.size p.job.store a b
 told_for how size store message work a b t p =
     subst (λ h. IsTold h p.job.size p.job.store a b) (sym p.kind) (subst (λ n. IsTold how n p.job.store a b) (sym p.sized) (subst (λ s. IsTold how size s a b) (sym p.stored) t))
 
-pub prepared : (how : How) (size : ℕ) (store message : List ℕ) (work : Work) (a b : LinkView) → IsTold how size store a b → IsPlannedFor how size store message work → IsPrepared how size message work a b
+pub prepared : (how : How) (size : ℕ) (store message : List ℕ) (work : Work) (a b : LinkView) → IsTold how size store a b → IsPlannedFor how size store message work
+    → IsPrepared how size message work a b
 prepared how size store message work a b t p =
     let told = told_for how size store message work a b t p in
     let same : b.state.store ≡ a.state.store = told.stays.store in

@@ -35,7 +35,8 @@ pub record Stop (phase : Phase) (j : WriteJob) (old new : LinkView) (e : WriteFa
   pub does : Does j.how off.at.state off.next (off.at.step off.at.state off.next.command)
   pub store : off.at.state.store ≡ after_puts j.store (made_at phase j ++ off.front)
 
-pub stop_at : (phase : Phase) (j : WriteJob) (work : Work) (old new : LinkView) (e : WriteFault) → IsAt phase j work old → (off : BreaksOff j.how old (next_at phase j) new e) → Stop phase j old new e off
+pub stop_at : (phase : Phase) (j : WriteJob) (work : Work) (old new : LinkView) (e : WriteFault) → IsAt phase j work old → (off : BreaksOff j.how old (next_at phase j) new e)
+    → Stop phase j old new e off
 stop_at phase j work old new e at off =
     let P : Put → Type 0 = IsPutOf j.how j.size j.store in
     let all : AllByRecursion P (off.front ++ off.next ∷ off.rest) = subst (AllByRecursion P) off.split (next_all phase j at.serves) in
@@ -50,7 +51,8 @@ stop_at phase j work old new e at off =
     }
 
 -- the store that the next write leaves, done or not
-put_store : (phase : Phase) (j : WriteJob) (old new : LinkView) (e : WriteFault) (off : BreaksOff j.how old (next_at phase j) new e) → Stop phase j old new e off → put_into off.at.state.store off.next ≡ after_puts j.store (made_at phase j ++ off.front ++ off.next ∷ [])
+put_store : (phase : Phase) (j : WriteJob) (old new : LinkView) (e : WriteFault) (off : BreaksOff j.how old (next_at phase j) new e) → Stop phase j old new e off
+    → put_into off.at.state.store off.next ≡ after_puts j.store (made_at phase j ++ off.front ++ off.next ∷ [])
 put_store phase j old new e off s =
     ap (λ t. put_into t off.next) s.store
     ∙ sym (after_append j.store (made_at phase j ++ off.front) (off.next ∷ []))
@@ -115,7 +117,8 @@ stops_at phase j work old new e at off = by_fault off.fails
     }
 
 -- Since the writing began.
-module _ (phase : Phase) (j : WriteJob) (work : Work) (a old new : LinkView) (e : WriteFault) (at : IsAt phase j work old) (since : Since j a old (made_at phase j)) (off : BreaksOff j.how old (next_at phase j) new e) where
+module _ (phase : Phase) (j : WriteJob) (work : Work) (a old new : LinkView) (e : WriteFault) (at : IsAt phase j work old) (since : Since j a old (made_at phase j))
+    (off : BreaksOff j.how old (next_at phase j) new e) where
   s : Stop phase j old new e off
   s = stop_at phase j work old new e at off
 
@@ -138,8 +141,11 @@ module _ (phase : Phase) (j : WriteJob) (work : Work) (a old new : LinkView) (e 
   -- all writes, from those that were made on
   split_all : (rest : List Put) × (all_puts j.parts ≡ made ++ off.next ∷ rest)
   split_all =
-      let h = phase_split phase j in
-      (off.rest ++ h.0, h.1 ∙ ap (λ ps. (made_at phase j ++ ps) ++ h.0) off.split ∙ ap (λ ps. ps ++ h.0) (sym (append_assoc (made_at phase j) off.front (off.next ∷ off.rest))) ∙ append_assoc made (off.next ∷ off.rest) h.0)
+      let h = phase_split phase j in (
+        off.rest ++ h.0,
+        h.1 ∙ ap (λ ps. (made_at phase j ++ ps) ++ h.0) off.split ∙ ap (λ ps. ps ++ h.0) (sym (append_assoc (made_at phase j) off.front (off.next ∷ off.rest)))
+            ∙ append_assoc made (off.next ∷ off.rest) h.0,
+      )
 
   abbrev later : List Signal
   later = commands_of split_all.0
@@ -163,7 +169,8 @@ module _ (phase : Phase) (j : WriteJob) (work : Work) (a old new : LinkView) (e 
   kinds = elim (lost_store phase j old new e off s) [
     | inl same ↦ Same same
     | inr put ↦ subst (Kinds j v.state.store)
-        (sym (put ∙ put_store phase j old new e off s ∙ ap (after_puts j.store) (append_assoc (made_at phase j) off.front (off.next ∷ [])) ∙ after_append j.store (made_at phase j) (off.front ++ off.next ∷ [])))
+        (sym (put ∙ put_store phase j old new e off s ∙ ap (after_puts j.store) (append_assoc (made_at phase j) off.front (off.next ∷ []))
+        ∙ after_append j.store (made_at phase j) (off.front ++ off.next ∷ [])))
         (kind_next phase j v.state.store at.serves off.front off.rest off.next off.split)
   ]
 

@@ -105,8 +105,18 @@ can_do (T5 id) size base v p tag near like is = subst (λ q. CanDo (T5 id) v q) 
 
 -- a tag behind a write that it did
 pub tag_by : (how : How) (size : ℕ) (a b : LinkView) → IsTag how size a → b.kind ≡ a.kind → b.identifier ≡ a.identifier → b.step ≡ a.step → IsStore how size b.state.store → IsTag how size b
-tag_by T2 size a b is kind identifier step store = record { kind = kind ∙ is.kind; named = tt; store = store; steps = (is.steps.0, λ t c st may. ap (λ f. f t c) step ∙ is.steps.1 t c st (subst (λ i. MayAsk Type2 i c) identifier may)) }
-tag_by T4 size a b is kind identifier step store = record { kind = kind ∙ is.kind; named = tt; store = store; steps = (is.steps.0, is.steps.1, λ t c st may. ap (λ f. f t c) step ∙ is.steps.2 t c st (subst (λ i. MayAsk Type4 i c) identifier may)) }
+tag_by T2 size a b is kind identifier step store = record {
+  kind = kind ∙ is.kind;
+  named = tt;
+  store = store;
+  steps = (is.steps.0, λ t c st may. ap (λ f. f t c) step ∙ is.steps.1 t c st (subst (λ i. MayAsk Type2 i c) identifier may));
+}
+tag_by T4 size a b is kind identifier step store = record {
+  kind = kind ∙ is.kind;
+  named = tt;
+  store = store;
+  steps = (is.steps.0, is.steps.1, λ t c st may. ap (λ f. f t c) step ∙ is.steps.2 t c st (subst (λ i. MayAsk Type4 i c) identifier may));
+}
 tag_by (T5 id) size a b is kind identifier step store = record {
   kind = kind ∙ is.kind;
   named = (identifier ∙ is.named.0, is.named.1, is.named.2);
@@ -125,7 +135,8 @@ pub record IsUnder (how : How) (size : ℕ) (base : List ℕ) (v : LinkView) : T
   pub near : IsNear how v.state
   pub like : IsLike how size base v.state.store
 
-pub state_behind : (how : How) (size : ℕ) (base : List ℕ) (a b : LinkView) (p : Put) → IsUnder how size base a → IsPutOf how size base p → Accepts how a b p.command → b.state ≡ record a.state { store = put_into a.state.store p }
+pub state_behind : (how : How) (size : ℕ) (base : List ℕ) (a b : LinkView) (p : Put) → IsUnder how size base a → IsPutOf how size base p → Accepts how a b p.command
+    → b.state ≡ record a.state { store = put_into a.state.store p }
 state_behind how size base a b p under is x = x.0.state ∙ (can_do how size base a p under.tag under.near under.like is).does.done x.1
 
 pub under_on : (how : How) (size : ℕ) (base : List ℕ) (a b : LinkView) (p : Put) → IsUnder how size base a → IsPutOf how size base p → Accepts how a b p.command → IsUnder how size base b
@@ -139,11 +150,13 @@ under_on how size base a b p under is x =
     }
 
 -- the same behind writes that were made one after another
-pub under_makes : (how : How) (size : ℕ) (base : List ℕ) (a b : LinkView) (ps : List Put) → IsUnder how size base a → AllByRecursion (IsPutOf how size base) ps → Makes how a ps b → IsUnder how size base b
+pub under_makes : (how : How) (size : ℕ) (base : List ℕ) (a b : LinkView) (ps : List Put) → IsUnder how size base a → AllByRecursion (IsPutOf how size base) ps → Makes how a ps b
+    → IsUnder how size base b
 under_makes how size base a b [] under all m = subst (λ v. IsUnder how size base v) (sym m) under
 under_makes how size base a b (p ∷ ps) under all m = under_makes how size base m.0 b ps (under_on how size base a m.0 p under all.0 m.1) all.1 m.2
 
-pub store_makes : (how : How) (size : ℕ) (base : List ℕ) (a b : LinkView) (ps : List Put) → IsUnder how size base a → AllByRecursion (IsPutOf how size base) ps → Makes how a ps b → b.state.store ≡ after_puts a.state.store ps
+pub store_makes : (how : How) (size : ℕ) (base : List ℕ) (a b : LinkView) (ps : List Put) → IsUnder how size base a → AllByRecursion (IsPutOf how size base) ps → Makes how a ps b
+    → b.state.store ≡ after_puts a.state.store ps
 store_makes how size base a b [] under all m = ap (λ v. v.state.store) m
 store_makes how size base a b (p ∷ ps) under all m =
     let behind = state_behind how size base a m.0 p under all.0 m.1 in

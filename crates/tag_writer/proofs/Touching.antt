@@ -1,5 +1,6 @@
 -- The blocks that a plan writes lie in the area.
-use Rattle.std.proofs.Common.{◌≡◌, ℕ, zero, suc, ◌%◌, ◌/◌, inl, inr, Bool, true, false, not, ◌==◌, ◌&&◌, ◌||◌, List, [], ◌∷◌, ◌++◌, length, map, take, Option, Some, None, refl, sym, ◌∙◌, ap, subst, arith}
+use Rattle.std.proofs.Common.{◌≡◌, ℕ, zero, suc, ◌%◌, ◌/◌, inl, inr, Bool, true, false, not, ◌==◌, ◌&&◌, ◌||◌, List, [], ◌∷◌, ◌++◌, length, map, take, Option, Some, None, refl, sym, ◌∙◌, ap, subst}
+use Rattle.std.proofs.Common.{arith}
 use Rattle.std.specs.Prelude.{slice_index}
 use Rattle.std.specs.List.{list_any, filter, range_with_len, AllByRecursion}
 use Rattle.std.proofs.lemmas.Bool.{cases_Bool, and_parts}
@@ -76,7 +77,8 @@ tail_first memory t after lies kind = by_cells t.at lies.bytes
 
 -- each block that is written has an address of the span
 pub blocks_inside : (size end : ℕ) (memory message new : List ℕ) (t : Tlv) (after : List ℕ) (plan : Plan) (P : ℕ → Type 0) → LiesIn memory t → t.kind ≡ ndef_message →
-    IsPlan size end (message_tail t.at after) memory message new plan → ((a : ℕ) → is_in (span (message_tail t.at after) message) a ≡ true → P (a / size)) → AllByRecursion (λ s. P s.block) (steps_of plan)
+    IsPlan size end (message_tail t.at after) memory message new plan → ((a : ℕ) → is_in (span (message_tail t.at after) message) a ≡ true → P (a / size))
+    → AllByRecursion (λ s. P s.block) (steps_of plan)
 blocks_inside size end memory message new t after plan P lies kind is inside =
     let tail : List ℕ = message_tail t.at after in
     let first = tail_first memory t after lies kind in

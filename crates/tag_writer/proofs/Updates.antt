@@ -100,7 +100,8 @@ module _ (store message : List ℕ) (some : 1 ≤ most_brought store) (long : 2 
       by_length false e = ap (λ s. put_into s (update_put store 0 (0 ∷ 0 ∷ []))) joined ∙ put_in file 0 (0 ∷ 0 ∷ [])
 
   -- behind the first k pieces
-  fill_to : (k : ℕ) → k ≤ pieces → after_puts (container ++ filled file message 0) (map (piece_of (update_put store) message (most_brought store)) (range_with_len 0 k)) ≡ container ++ filled file message (most * k)
+  fill_to : (k : ℕ) → k ≤ pieces → after_puts (container ++ filled file message 0) (map (piece_of (update_put store) message (most_brought store)) (range_with_len 0 k)) ≡ container
+      ++ filled file message (most * k)
   fill_to zero low = (let none : most * 0 ≡ 0 = omega arith in ap (λ n. container ++ filled file message n) (sym none))
   fill_to (suc k) low =
       let before : List ℕ = container ++ filled file message 0 in
@@ -131,10 +132,12 @@ module _ (store message : List ℕ) (some : 1 ≤ most_brought store) (long : 2 
       some_first = elim (cases_lt n pieces) [
         | inl low ↦
             (let least : min n pieces ≡ n = omega (arith, low) in
-            take-map-range_with_len (piece_of (update_put store) message (most_brought store)) 0 pieces n (omega (arith, low)) ∙ ap (λ k. map (piece_of (update_put store) message (most_brought store)) (range_with_len 0 k)) (sym least))
+            take-map-range_with_len (piece_of (update_put store) message (most_brought store)) 0 pieces n (omega (arith, low))
+            ∙ ap (λ k. map (piece_of (update_put store) message (most_brought store)) (range_with_len 0 k)) (sym least))
         | inr high ↦
             (let least : min n pieces ≡ pieces = omega (arith, high) in
-            take_all n all (omega (arith, high, length-map-range_with_len (piece_of (update_put store) message (most_brought store)) 0 pieces)) ∙ ap (λ k. map (piece_of (update_put store) message (most_brought store)) (range_with_len 0 k)) (sym least))
+            take_all n all (omega (arith, high, length-map-range_with_len (piece_of (update_put store) message (most_brought store)) 0 pieces))
+            ∙ ap (λ k. map (piece_of (update_put store) message (most_brought store)) (range_with_len 0 k)) (sym least))
       ]
 
   -- the file with the message
@@ -151,7 +154,8 @@ module _ (store message : List ℕ) (some : 1 ≤ most_brought store) (long : 2 
 
   -- behind the last update
   pub opened : after_puts store ((file_puts Prepared store message ++ file_puts Emptied store message) ++ file_puts Filled store message) ≡ container ++ new_file
-  opened = after_append store (file_puts Prepared store message ++ file_puts Emptied store message) (file_puts Filled store message) ∙ ap (λ s. after_puts s (file_puts Filled store message)) before_last ∙ by_length (length message == 0) refl
+  opened = after_append store (file_puts Prepared store message ++ file_puts Emptied store message) (file_puts Filled store message)
+      ∙ ap (λ s. after_puts s (file_puts Filled store message)) before_last ∙ by_length (length message == 0) refl
     where
       ready : List ℕ
       ready = 0 ∷ 0 ∷ (message ++ drop (length message) (drop 2 file))

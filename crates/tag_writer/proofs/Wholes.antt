@@ -91,7 +91,8 @@ module _ (j : WriteJob) (a b : LinkView) (serves : Serves j) (store : a.state.st
   }
 
 -- The job is that of a message.
-pub stops_for : (j : WriteJob) (how : How) (size : ℕ) (message : List ℕ) (a b : LinkView) (e : WriteFault) → j.how ≡ how → j.size ≡ size → j.message ≡ message → Serves j → a.state.store ≡ j.store → StopsSince j a b e → Stops how size message a b e
+pub stops_for : (j : WriteJob) (how : How) (size : ℕ) (message : List ℕ) (a b : LinkView) (e : WriteFault) → j.how ≡ how → j.size ≡ size → j.message ≡ message → Serves j → a.state.store ≡ j.store
+    → StopsSince j a b e → Stops how size message a b e
 stops_for j how size message a b e kind sized new serves store s =
     subst (λ h. Stops h size message a b e) kind (subst (λ n. Stops j.how n message a b e) sized (subst (λ m. Stops j.how j.size m a b e) new (stops j a b serves store e s)))
 
@@ -121,7 +122,8 @@ old_left how size message place store s fault.Protocol is = tt
 abbrev no_parts : Parts
 no_parts = record { close = []; fill = []; last = [] }
 
-pub unwritten : (how : How) (size : ℕ) (message : List ℕ) (a b : LinkView) (e : WriteFault) → Stays a b → HasSurveyed how size a.state.store a b → (is_told e ≡ true → HasSurveyedAll how size a.state.store a b) → (is_told e ≡ true → GoesOn a b) →
+pub unwritten : (how : How) (size : ℕ) (message : List ℕ) (a b : LinkView) (e : WriteFault) → Stays a b → HasSurveyed how size a.state.store a b
+    → (is_told e ≡ true → HasSurveyedAll how size a.state.store a b) → (is_told e ≡ true → GoesOn a b) →
     (is_told e ≡ true → TakesNot how size a.state.store message) → IsWriteFault how size message a b e → Stops how size message a b e
 unwritten how size message a b e stays asked whole goes_on untaken cause =
     let xs : List (List ℕ) = images a stays.more in

@@ -1,11 +1,13 @@
 -- How often a write writes at one address, and that it writes no content that stands there.
-use Rattle.std.specs.Prelude.{◌≡◌, ◌≢◌, ℕ, ◌+◌, ◌*◌, ◌/◌, ◌<◌, ◌≤◌, ◌⊎◌, ◌==◌, if◌then◌else◌, List, [], ◌∷◌, length, take, drop, slice_index}
+use Rattle.std.specs.Prelude.{◌≡◌, ◌≢◌, ℕ, ◌+◌, ◌*◌, ◌/◌, ◌<◌, ◌≤◌, ◌⊎◌, ◌==◌, if◌then◌else◌, List, [], ◌∷◌, length}
+use Rattle.std.specs.Prelude.{take, drop, slice_index}
 use Rattle.tag_reader.specs.declared.how.How.{How}
 use Rattle.tag_reader.specs.declared.how.How.TheVariants.{T2, T4, T5}
 use Rattle.tag_writer.specs.Puts.{Put, put_into}
 use Rattle.tag_writer.specs.Place.{Place}
 
--- Where the message's length is written: the first address of the block that has its first byte or, in a file, that byte's own.
+-- Where the message's length is written: the first address of the block that has its first byte or, in a file, that
+-- byte's own.
 abbrev pub home_at : How → ℕ → Place → ℕ
 home_at T2 size place = 4 * (slice_index place.span 0 / 4)
 home_at T4 size place = slice_index place.span 0
@@ -23,7 +25,8 @@ IsHomePut how size place p = (p.at ≡ home_at how size place) × (length p.byte
 
 -- two stores are the same but for the length's block or, in a file, its length
 abbrev pub SameElsewhere : How → ℕ → Place → List ℕ → List ℕ → Type 0
-SameElsewhere how size place s t = (a : ℕ) → (a < home_at how size place) ⊎ (home_at how size place + home_size how size ≤ a) →
+SameElsewhere how size place s t = (a : ℕ) → (a < home_at how size place)
+    ⊎ (home_at how size place + home_size how size ≤ a) →
     slice_index s a ≡ slice_index t a
 
 -- how many of some writes begin at an address

@@ -39,8 +39,8 @@ pub record AsksAllOf (j : WriteJob) (a b : LinkView) : Type 0 where
   pub all : IsAskedFor ToWrite j.how j.size j.store read
   pub answered : b.answered ≡ a.answered ++ asked_for j a read
 
--- Since the writing began at a view the stores keep the law, what was asked is what is asked for the job, and the cause of the
--- fault is known.
+-- Since the writing began at a view the stores keep the law, what was asked is what is asked for the job, and the cause
+-- of the fault is known.
 pub record StopsSince (j : WriteJob) (a b : LinkView) (e : WriteFault) : Type 0 where
   pub more : List Signal
   pub leads : Leads a b more
@@ -56,16 +56,17 @@ Stands Prepared j store = store ≡ j.store
 Stands Emptied j store = IsEmptied j.how j.size j.place j.store store
 Stands Filled j store = IsEmptied j.how j.size j.place j.store store
 
--- Why a phase stops at a write, behind those of a front: the tag as they leave it refuses the write by this code, or the link is
--- over by this fault, which it was before the phase, or whose cause is known of the phase.
+-- Why a phase stops at a write, behind those of a front: the tag as they leave it refuses the write by this code, or
+-- the link is over by this fault, which it was before the phase, or whose cause is known of the phase.
 abbrev pub StopsBy : WriteJob → LinkView → LinkView → List Put → Put → WriteFault → Type 0
 StopsBy j a b front next e =
-    ((code : ℕ) × (e ≡ fault.Refused code) × (refusal_in j.how (a.step (after_all a.step a.state (commands_of front)) next.command).answer ≡ Some code))
+    ((code : ℕ) × (e ≡ fault.Refused code)
+    × (refusal_in j.how (a.step (after_all a.step a.state (commands_of front)) next.command).answer ≡ Some code))
     ⊎ ((f : AskFault) × (e ≡ of_link f) × ByLink a b f)
 
--- What a call leaves that stopped behind a phase, from the view at which it began: no write before the one that failed was refused.
--- A refused write changed nothing, and what stood at the phase stands. After any other fault the store is as before the write that
--- failed or as behind it.
+-- What a call leaves that stopped behind a phase, from the view at which it began: no write before the one that failed
+-- was refused. A refused write changed nothing, and what stood at the phase stands. After any other fault the store is
+-- as before the write that failed or as behind it.
 pub record StopsAt (phase : Phase) (j : WriteJob) (a b : LinkView) (e : WriteFault) : Type 0 where
   pub front : List Put
   pub next : Put
@@ -73,8 +74,10 @@ pub record StopsAt (phase : Phase) (j : WriteJob) (a b : LinkView) (e : WriteFau
   pub split : next_at phase j ≡ front ++ next ∷ rest
   pub accepted : refused_by j.how a.step a.state (commands_of front) ≡ None
   pub cause : StopsBy j a b front next e
-  pub refused : IsRefusal e → (b.state.store ≡ after_puts j.store (made_at phase j ++ front)) × Stands phase j b.state.store
-  pub lost : (b.state.store ≡ after_puts j.store (made_at phase j ++ front)) ⊎ (b.state.store ≡ after_puts j.store (made_at phase j ++ front ++ next ∷ []))
+  pub refused : IsRefusal e → (b.state.store ≡ after_puts j.store (made_at phase j ++ front))
+      × Stands phase j b.state.store
+  pub lost : (b.state.store ≡ after_puts j.store (made_at phase j ++ front))
+      ⊎ (b.state.store ≡ after_puts j.store (made_at phase j ++ front ++ next ∷ []))
 
 -- The message is written.
 pub record IsOpened (j : WriteJob) (a b : LinkView) : Type 0 where
@@ -87,8 +90,8 @@ pub record IsOpened (j : WriteJob) (a b : LinkView) : Type 0 where
   pub whole : AsksAllOf j a b
   pub accepted : refused_by j.how a.step (surveyed j.how a.state) (commands_of (all_puts j.parts)) ≡ None
 
--- What the writes behind a phase lead to where they are done: the tag is as the next phase needs it, behind `Emptied` with all but
--- the length's block or field as the new store has it, and behind `Filled` its store is new.
+-- What the writes behind a phase lead to where they are done: the tag is as the next phase needs it, behind `Emptied`
+-- with all but the length's block or field as the new store has it, and behind `Filled` its store is new.
 abbrev pub Reaches : Phase → WriteJob → Work → LinkView → Type 0
 Reaches Prepared j work b = IsAt Emptied j work b
 Reaches Emptied j work b = IsAt Filled j work b × SameElsewhere j.how j.size j.place b.state.store (new_store j)
@@ -100,13 +103,14 @@ ReachesSince Prepared j a b = Since j a b (made_at Emptied j)
 ReachesSince Emptied j a b = Since j a b (made_at Filled j)
 ReachesSince Filled j a b = IsOpened j a b
 
--- The writes behind a phase are done. Whatever the tag, each was acknowledged; the rest is of one that keeps to its table, as the
--- call before left it, and that since the view at which the writing began.
+-- The writes behind a phase are done. Whatever the tag, each was acknowledged; the rest is of one that keeps to its
+-- table, as the call before left it, and that since the view at which the writing began.
 pub record HasReached (phase : Phase) (work : Work) (a b : LinkView) : Type 0 where
   pub told : AreAcknowledged (how_of work) a b (commands_at phase work)
   pub rises : Rises a b
   pub ok : (j : WriteJob) → IsAt phase j work a → Reaches phase j work b
-  pub since : (j : WriteJob) (v : LinkView) → IsAt phase j work a → Since j v a (made_at phase j) → ReachesSince phase j v b
+  pub since : (j : WriteJob) (v : LinkView) → IsAt phase j work a → Since j v a (made_at phase j)
+      → ReachesSince phase j v b
 
 -- One of them isn't: which one and why; and of a tag that keeps to its table what it left.
 pub record HasStopped (phase : Phase) (work : Work) (a b : LinkView) (s : Stopped) : Type 0 where
@@ -114,7 +118,8 @@ pub record HasStopped (phase : Phase) (work : Work) (a b : LinkView) (s : Stoppe
   pub told : StopsAmong (how_of work) a b (commands_at phase work) s.cause
   pub rises : Rises a b
   pub err : (j : WriteJob) → IsAt phase j work a → StopsAt phase j a b s.cause
-  pub law : (j : WriteJob) (v : LinkView) → IsAt phase j work a → Since j v a (made_at phase j) → StopsSince j v b s.cause
+  pub law : (j : WriteJob) (v : LinkView) → IsAt phase j work a → Since j v a (made_at phase j)
+      → StopsSince j v b s.cause
   pub calm : (j : WriteJob) → IsAt phase j work a → IsCalm a b → IsToldOrMemory s.cause
 
 -- how a phase ends
@@ -122,7 +127,8 @@ abbrev pub EndsPhase : {A : Type 0} → Phase → Work → LinkView → LinkView
 EndsPhase phase work a b (Ok x) = HasReached phase work a b
 EndsPhase phase work a b (Err s) = HasStopped phase work a b s
 
--- All phases, one after another, since the view at which the writing began: the message is written, or one of its writes isn't done.
+-- All phases, one after another, since the view at which the writing began: the message is written, or one of its
+-- writes isn't done.
 pub record HasOpened (work : Work) (a b : LinkView) : Type 0 where
   pub told : AreAcknowledged (how_of work) a b (all_commands work)
   pub ok : (j : WriteJob) (v : LinkView) → IsAt Prepared j work a → Since j v a [] → IsOpened j v b

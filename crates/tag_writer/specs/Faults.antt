@@ -9,13 +9,15 @@ use Rattle.tag_writer.specs.declared.fault.WriteFault.TheVariants as fault
 use Rattle.tag_writer.specs.Outcome.{IsOutcome}
 use Rattle.tag_writer.specs.Law.{Ending, Written, Refused, Stopped}
 
--- Each fault: by the store, the tag's step and the message, or of the link. Want of memory is the writer's own only while nothing
--- was asked but what is read before the first write, and then the link isn't over; or it is that by which the link is over.
+-- Each fault: by the store, the tag's step and the message, or of the link. Want of memory is the writer's own only
+-- while nothing was asked but what is read before the first write, and then the link isn't over; or it is that by which
+-- the link is over.
 abbrev pub IsWriteFault : How → ℕ → List ℕ → LinkView → LinkView → WriteFault → Type 0
 IsWriteFault how size message a b fault.FieldLost = ByLink a b ask.FieldLost
 IsWriteFault how size message a b fault.SixBad = ByLink a b ask.SixBad
 IsWriteFault how size message a b fault.Protocol = ByLink a b ask.Protocol
-IsWriteFault how size message a b fault.Memory = ((b.over ≡ None) × HasSurveyed how size a.state.store a b) ⊎ ByLink a b ask.Memory
+IsWriteFault how size message a b fault.Memory = ((b.over ≡ None) × HasSurveyed how size a.state.store a b)
+    ⊎ ByLink a b ask.Memory
 IsWriteFault how size message a b e = IsOutcome how size a.step a.state message (Err e)
 
 -- how the stores of a write stand by its answer

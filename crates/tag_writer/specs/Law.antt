@@ -36,11 +36,14 @@ LeavesStore how size message place old Refused s = (s ≡ old) ⊎ IsEmptied how
 LeavesStore how size message place old Stopped s = Unit {0}
 
 -- The stores are first the old one itself, then such that hold the empty message, then the new one.
-pub record Passes (how : How) (size : ℕ) (store message : List ℕ) (place : Place) (ending : Ending) (images : List (List ℕ)) : Type 0 where
-  pub three : PassInThree (λ s. s ≡ store) (IsEmptied how size place store) (IsWritten how size message place store) images
+pub record Passes (how : How) (size : ℕ) (store message : List ℕ) (place : Place) (ending : Ending)
+    (images : List (List ℕ)) : Type 0 where
+  pub three : PassInThree (λ s. s ≡ store) (IsEmptied how size place store) (IsWritten how size message place store)
+      images
   pub leaves : LeavesStore how size message place store ending (last_store store images)
 
 -- The law of a write over the tag's stores, from the one before it on. A store that doesn't take the message stays.
-pub record WriteLaw (how : How) (size : ℕ) (store message : List ℕ) (ending : Ending) (images : List (List ℕ)) : Type 0 where
+pub record WriteLaw (how : How) (size : ℕ) (store message : List ℕ) (ending : Ending) (images : List (List ℕ))
+    : Type 0 where
   pub takes : (place : Place) → Takes how size store message place → Passes how size store message place ending images
   pub stays : TakesNot how size store message → AllByRecursion (λ s. s ≡ store) images

@@ -1,5 +1,5 @@
--- Locked blocks: that a tag refuses the writes of a message that it takes exactly where one of them goes to a locked block (NFC Forum
--- Type 2 and Type 5 Tag). A Type 4 tag has no blocks.
+-- Locked blocks: that a tag refuses the writes of a message that it takes exactly where one of them goes to a locked
+-- block (NFC Forum Type 2 and Type 5 Tag). A Type 4 tag has no blocks.
 use Rattle.std.specs.Prelude.{◌≡◌, ℕ, ◌/◌, ◌≤◌, List, [], get_or, Bool, true, false, if◌then◌else◌, Option, Some, None}
 use Rattle.std.specs.List.{list_any}
 use Rattle.nfc_base.specs.Signal.{Signal}
@@ -36,17 +36,20 @@ refusal_if how locked = if locked then locked_code how else None
 
 -- The tag has this step on commands, these of its blocks being locked.
 abbrev pub StepsBy : How → ℕ → List Bool → (TagState → Signal → TagStep) → Type 0
-StepsBy T2 size locked step = (s : TagState) (c : Signal) → IsT2Store s.store → MayAsk Type2 [] c → step s c ≡ t2_step locked s c
+StepsBy T2 size locked step = (s : TagState) (c : Signal) → IsT2Store s.store → MayAsk Type2 [] c
+    → step s c ≡ t2_step locked s c
 StepsBy T4 size locked step = (code : ℕ) × (code ≤ 8)
     × ((s : TagState) (c : Signal) → IsFileStore s.store → MayAsk Type4 [] c → step s c ≡ t4_link_step code s c)
 StepsBy (T5 id) size locked step = IsNamed (T5 id) id × (quiet : Bool)
-    × ((s : TagState) (c : Signal) → IsT5Store size s.store → MayAsk Type5 id c → step s c ≡ t5_step id size locked quiet s c)
+    × ((s : TagState) (c : Signal) → IsT5Store size s.store → MayAsk Type5 id c
+    → step s c ≡ t5_step id size locked quiet s c)
 
 -- A store takes a message, and none of the blocks that are written for it is locked.
 pub record IsFreeFor (how : How) (size : ℕ) (locked : List Bool) (store message : List ℕ) : Type 0 where
   pub place : Place
   pub takes : Takes how size store message place
-  pub free : (parts : Parts) → ArePuts how size store message parts → has_locked how size locked (all_puts parts) ≡ false
+  pub free : (parts : Parts) → ArePuts how size store message parts
+      → has_locked how size locked (all_puts parts) ≡ false
 
 -- A refusal is that of a locked block, to which one of the writes goes.
 pub record IsLockedFor (how : How) (size : ℕ) (locked : List Bool) (store message : List ℕ) (code : ℕ) : Type 0 where

@@ -14,20 +14,23 @@ use Rattle.tag_writer.specs.WriteAsked.{Writes}
 
 -- The store holds a message, and writing isn't free.
 abbrev pub IsReadOnly : How → ℕ → List ℕ → List ℕ → Type 0
-IsReadOnly how size store message = ((place : Place) × IsPlaceIn how size store message place) × IsAccess how size store false
+IsReadOnly how size store message = ((place : Place) × IsPlaceIn how size store message place)
+    × IsAccess how size store false
 
 -- Writing is free, but the message is longer than so many bytes, which is all the room there is.
 abbrev pub IsTooLong : How → ℕ → List ℕ → List ℕ → ℕ → Type 0
 IsTooLong how size store message n =
-    (place : Place) × IsPlaceIn how size store message place × IsAccess how size store true × (n ≡ place.room) × (n < length message)
+    (place : Place) × IsPlaceIn how size store message place × IsAccess how size store true × (n ≡ place.room)
+    × (n < length message)
 
 -- There is room, but one update brings fewer than two bytes.
 abbrev pub IsShort : How → ℕ → List ℕ → List ℕ → Type 0
 IsShort how size store message =
-    (place : Place) × IsPlaceIn how size store message place × IsAccess how size store true × (length message ≤ place.room) × (HasPieces how store → ⊥)
+    (place : Place) × IsPlaceIn how size store message place × IsAccess how size store true
+    × (length message ≤ place.room) × (HasPieces how store → ⊥)
 
--- Success, or a fault of the store's form, of what the message asks for, or of the tag: by the store, the tag's step and the message
--- alone.
+-- Success, or a fault of the store's form, of what the message asks for, or of the tag: by the store, the tag's step
+-- and the message alone.
 abbrev pub IsOutcome : How → ℕ → (TagState → Signal → TagStep) → TagState → List ℕ → Result Unit WriteFault → Type 0
 IsOutcome how size step s message (Ok done) = Writes how size step s message None
 IsOutcome how size step s message (Err fault.NotNdef) = IsStoreForm how size s.store (Faulty container.NotNdef)

@@ -47,22 +47,24 @@ next_at Filled j = j.parts.last
 abbrev pub new_store : WriteJob → List ℕ
 new_store j = after_puts j.store (all_puts j.parts)
 
--- The writes serve the message: behind the first part and each front of the second the store holds the empty message, behind
--- the third it is the new one. The first and the third part are one write at most, the third one of the length; all of them are few.
+-- The writes serve the message: behind the first part and each front of the second the store holds the empty message,
+-- behind the third it is the new one. The first and the third part are one write at most, the third one of the length;
+-- all of them are few.
 pub record Serves (j : WriteJob) : Type 0 where
   pub store' : IsStore j.how j.size j.store
   pub takes : Takes j.how j.size j.store j.message j.place
   pub are : ArePuts j.how j.size j.store j.message j.parts
   pub puts : AllByRecursion (IsPutOf j.how j.size j.store) (all_puts j.parts)
-  pub empty : (n : ℕ) → IsEmptied j.how j.size j.place j.store (after_puts j.store (j.parts.close ++ take n j.parts.fill))
+  pub empty : (n : ℕ) → IsEmptied j.how j.size j.place j.store
+      (after_puts j.store (j.parts.close ++ take n j.parts.fill))
   pub new : IsWritten j.how j.size j.message j.place j.store (new_store j)
   pub first : length j.parts.close ≤ 1
   pub last : length j.parts.last ≤ 1
   pub home : AllByRecursion (IsHomePut j.how j.size j.place) j.parts.last
   pub few : AreFew j.how j.size j.store j.place (all_puts j.parts)
 
--- The work as the code keeps it: the plan of the blocks; or of a file the message, the most bytes of it that one update brings,
--- and whether the length has to become 0 first.
+-- The work as the code keeps it: the plan of the blocks; or of a file the message, the most bytes of it that one update
+-- brings, and whether the length has to become 0 first.
 abbrev pub plan_parts : How → ℕ → Plan → Parts
 plan_parts how size plan = record {
   close = block_puts how size (made plan.close);
@@ -110,8 +112,8 @@ pub record IsAt (phase : Phase) (j : WriteJob) (work : Work) (v : LinkView) : Ty
   pub near : IsNear j.how v.state
   pub store : v.state.store ≡ after_puts j.store (made_at phase j)
 
--- Since the writing began at a view a link went on so: all that is read first was answered, and then these writes, of which none
--- was refused; and the stores were first the old one, and then such that hold the empty message.
+-- Since the writing began at a view a link went on so: all that is read first was answered, and then these writes, of
+-- which none was refused; and the stores were first the old one, and then such that hold the empty message.
 pub record Since (j : WriteJob) (a b : LinkView) (puts : List Put) : Type 0 where
   pub store : a.state.store ≡ j.store
   pub more : List Signal

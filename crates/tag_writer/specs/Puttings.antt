@@ -1,5 +1,6 @@
 -- What one write does to a link, and writes one after another.
-use Rattle.std.specs.Prelude.{◌≡◌, ◌+◌, ◌*◌, ℕ, zero, suc, ◌<◌, ◌≤◌, ◌⊎◌, List, [], ◌∷◌, ◌++◌, length, Option, Some, None, Result, Ok, Err}
+use Rattle.std.specs.Prelude.{◌≡◌, ◌+◌, ◌*◌, ℕ, zero, suc, ◌<◌, ◌≤◌, ◌⊎◌, List, [], ◌∷◌, ◌++◌, length, Option, Some}
+use Rattle.std.specs.Prelude.{None, Result, Ok, Err}
 use Rattle.std.specs.List.{AllByRecursion}
 use Rattle.nfc_base.specs.Signal.{Signal, whole_a}
 use Rattle.nfc_base.specs.TagLinks.{LinkView, Leads, passed, Rises}
@@ -29,8 +30,8 @@ pub record IsBlockPut (how : How) (size least : ℕ) (store : List ℕ) (p : Put
   pub content : length step.content.items ≡ block_size how size
   pub within : block_size how size * step.block + block_size how size ≤ length store
 
--- An update of the file that the container of this store allows: writing is free, it brings a byte at least and no more than one
--- may, and all of them lie in the file.
+-- An update of the file that the container of this store allows: writing is free, it brings a byte at least and no more
+-- than one may, and all of them lie in the file.
 pub record IsUpdatePut (store : List ℕ) (p : Put) : Type 0 where
   pub offset : ℕ
   pub put : p ≡ update_put store offset p.bytes
@@ -97,7 +98,8 @@ Rejects how a b c code = Answers a b c × (refusal_in how (a.step a.state c).ans
 
 abbrev pub FailsBy : How → LinkView → LinkView → Signal → WriteFault → Type 0
 FailsBy how a b c e =
-    ((code : ℕ) × (e ≡ fault.Refused code) × Rejects how a b c code) ⊎ ((f : AskFault) × (e ≡ of_link f) × Loses a b c f)
+    ((code : ℕ) × (e ≡ fault.Refused code) × Rejects how a b c code)
+    ⊎ ((f : AskFault) × (e ≡ of_link f) × Loses a b c f)
 
 abbrev pub Puts : How → LinkView → LinkView → Signal → Result Unit WriteFault → Type 0
 Puts how a b c (Ok done) = Accepts how a b c

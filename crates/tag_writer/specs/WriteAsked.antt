@@ -1,4 +1,5 @@
--- What a writer asks of a tag, by the tag's store, its step and the message alone (NFC Forum Type 2, Type 4 and Type 5 Tag).
+-- What a writer asks of a tag, by the tag's store, its step and the message alone (NFC Forum Type 2, Type 4 and Type 5
+-- Tag).
 use Rattle.std.specs.Prelude.{◌≡◌, ◌⊎◌, ℕ, List, [], ◌∷◌, ◌++◌, is_some, if◌then◌else◌, Option, Some, None, Ok}
 use Rattle.nfc_base.specs.Signal.{Signal}
 use Rattle.nfc_base.specs.TagLinks.{TagState, TagStep, LinkView}
@@ -31,10 +32,11 @@ up_to_refused how step s (c ∷ cs) =
 abbrev pub refused_by : How → (TagState → Signal → TagStep) → TagState → List Signal → Option ℕ
 refused_by how step s [] = None
 refused_by how step s (c ∷ cs) =
-    if is_some (refusal_in how (step s c).answer) then refusal_in how (step s c).answer else refused_by how step (step s c).after cs
+    if is_some (refusal_in how (step s c).answer) then refusal_in how (step s c).answer
+    else refused_by how step (step s c).after cs
 
--- The writes of a message, in three parts: the first takes the old message away, the second writes all but the length's block or
--- field, and the last shows the new message.
+-- The writes of a message, in three parts: the first takes the old message away, the second writes all but the length's
+-- block or field, and the last shows the new message.
 pub record Parts : Type 0 where
   pub close : List Put
   pub fill : List Put
@@ -65,7 +67,8 @@ pub record AreFilePuts (store message : List ℕ) (p : Parts) : Type 0 where
   pub last : p.last ≡ file_puts Filled store message
 
 abbrev pub ArePuts : How → ℕ → List ℕ → List ℕ → Parts → Type 0
-ArePuts T2 size store message p = (space : Space) × (written_area T2 size store ≡ Ok space) × AreAreaPuts T2 size space store message p
+ArePuts T2 size store message p = (space : Space) × (written_area T2 size store ≡ Ok space)
+    × AreAreaPuts T2 size space store message p
 ArePuts T4 size store message p = AreFilePuts store message p
 ArePuts (T5 id) size store message p =
     (space : Space) × (written_area (T5 id) size store ≡ Ok space) × AreAreaPuts (T5 id) size space store message p
@@ -76,7 +79,8 @@ pub record AreWrites (how : How) (size : ℕ) (store message : List ℕ) (p : Pa
   pub none : TakesNot how size store message → all_puts p ≡ []
 
 -- The whole list of what a writer asks: what it reads, and then the writes up to the first that the tag refuses.
-pub record IsWriteAsked (how : How) (size : ℕ) (step : TagState → Signal → TagStep) (s : TagState) (message : List ℕ) (commands : List Signal) : Type 0 where
+pub record IsWriteAsked (how : How) (size : ℕ) (step : TagState → Signal → TagStep) (s : TagState) (message : List ℕ)
+    (commands : List Signal) : Type 0 where
   pub read : List Signal
   pub all : IsAskedFor ToWrite how size s.store read
   pub parts : Parts
@@ -84,7 +88,8 @@ pub record IsWriteAsked (how : How) (size : ℕ) (step : TagState → Signal →
   pub list : commands ≡ read ++ up_to_refused how step (surveyed how s) (commands_of (all_puts parts))
 
 -- The store takes the message, and the first of its writes that the tag refuses is refused by this code, or none is.
-pub record Writes (how : How) (size : ℕ) (step : TagState → Signal → TagStep) (s : TagState) (message : List ℕ) (code : Option ℕ) : Type 0 where
+pub record Writes (how : How) (size : ℕ) (step : TagState → Signal → TagStep) (s : TagState) (message : List ℕ)
+    (code : Option ℕ) : Type 0 where
   pub place : Place
   pub takes : Takes how size s.store message place
   pub parts : Parts
@@ -96,11 +101,12 @@ abbrev pub last_command : Option Signal → List Signal → Option Signal
 last_command before [] = before
 last_command before (c ∷ cs) = last_command (Some c) cs
 
--- The commands answered between two views are the first of these, and the last one that was asked is the last of those, and then
--- the link is over only where it was before; or it is the next.
+-- The commands answered between two views are the first of these, and the last one that was asked is the last of those,
+-- and then the link is over only where it was before; or it is the next.
 pub record HasAskedOf (a b : LinkView) (commands : List Signal) : Type 0 where
   pub asked : List Signal
   pub rest : List Signal
   pub split : commands ≡ asked ++ rest
   pub answered : b.answered ≡ a.answered ++ asked
-  pub last : ((b.last ≡ last_command a.last asked) × (b.over ≡ a.over)) ⊎ ((c : Signal) × (later : List Signal) × (rest ≡ c ∷ later) × (b.last ≡ Some c))
+  pub last : ((b.last ≡ last_command a.last asked) × (b.over ≡ a.over))
+      ⊎ ((c : Signal) × (later : List Signal) × (rest ≡ c ∷ later) × (b.last ≡ Some c))

@@ -18,8 +18,8 @@ use Rattle.tag_writer.specs.declared.fault.WriteFault.{WriteFault}
 use Rattle.tag_writer.specs.declared.fault.WriteFault.TheVariants as fault
 use Rattle.tag_writer.specs.declared.phase.Stopped.{Stopped}
 
--- An answer acknowledges a write: the four bits Ah of a Type 2 tag, the answer of a Type 5 tag that brings no bytes, the status
--- bytes 9000h of a Type 4 tag.
+-- An answer acknowledges a write: the four bits Ah of a Type 2 tag, the answer of a Type 5 tag that brings no bytes,
+-- the status bytes 9000h of a Type 4 tag.
 abbrev pub Acknowledges : How → Signal → Type 0
 Acknowledges T2 r = r ≡ t2.answer_frame t2_says.Done
 Acknowledges T4 r = r ≡ whole_a done
@@ -43,8 +43,8 @@ pub record AreAcknowledged (how : How) (a b : LinkView) (commands : List Signal)
   pub left : IsLeftBy a b commands
   pub link : ((commands ≡ []) × (b ≡ a)) ⊎ ((b.over ≡ None) × (b.dark ≡ false))
 
--- The write behind these was answered so; the link isn't over. Or it wasn't answered, and the link is over by this fault: where it
--- wasn't before, this write was asked, and was the last.
+-- The write behind these was answered so; the link isn't over. Or it wasn't answered, and the link is over by this
+-- fault: where it wasn't before, this write was asked, and was the last.
 pub record IsAnsweredBy (a b : LinkView) (front : List Signal) (next r : Signal) : Type 0 where
   pub answer : (a.step (after_all a.step a.state front) next).answer ≡ Some r
   pub answered : b.answered ≡ a.answered ++ (front ++ next ∷ [])
@@ -58,7 +58,8 @@ pub record IsUnanswered (a b : LinkView) (front : List Signal) (next : Signal) (
 -- Why the write behind these isn't acknowledged.
 abbrev pub IsWhy : How → LinkView → LinkView → List Signal → Signal → WriteFault → Type 0
 IsWhy how a b front next (fault.Refused code) = (r : Signal) × IsAnsweredBy a b front next r × Refuses how r code
-IsWhy how a b front next fault.Protocol = ((r : Signal) × IsAnsweredBy a b front next r × IsOddAnswer how r) ⊎ IsUnanswered a b front next ask.Protocol
+IsWhy how a b front next fault.Protocol = ((r : Signal) × IsAnsweredBy a b front next r × IsOddAnswer how r)
+    ⊎ IsUnanswered a b front next ask.Protocol
 IsWhy how a b front next fault.FieldLost = IsUnanswered a b front next ask.FieldLost
 IsWhy how a b front next fault.SixBad = IsUnanswered a b front next ask.SixBad
 IsWhy how a b front next fault.Memory = IsUnanswered a b front next ask.Memory

@@ -21,7 +21,8 @@ use Rattle.tag_writer.specs.WriteHeard.{AreAcknowledged, StopsAmong}
 
 -- The work writes the message to the ground that a survey told.
 abbrev pub IsWorkOn : How → Ground → List ℕ → Work → Type 0
-IsWorkOn how (Area known block map') message (work.Blocks how' plan) = (how' ≡ how) × GivesPlan block map' known message plan
+IsWorkOn how (Area known block map') message (work.Blocks how' plan) =
+    (how' ≡ how) × GivesPlan block map' known message plan
 IsWorkOn how (Area known block map') message (work.File message' most close) = ⊥
 IsWorkOn how (File map' length') message (work.Blocks how' plan) = ⊥
 IsWorkOn how (File map' length') message (work.File message' most close) =
@@ -36,13 +37,16 @@ pub record IsPlannedBy (how : How) (message : List ℕ) (work : Work) (a b : Lin
 -- A ground doesn't take a message, or there is no memory; blocks of more than 32 bytes are no allowed answer of a tag.
 abbrev pub IsDeclinedOn : Ground → List ℕ → WriteFault → Type 0
 IsDeclinedOn (Area known block map') message fault.ReadOnly = map'.space.writable ≡ false
-IsDeclinedOn (Area known block map') message (fault.TooLong n) = (map'.space.writable ≡ true) × (n ≡ capacity_of (map_room map')) × (n < length message)
+IsDeclinedOn (Area known block map') message (fault.TooLong n) =
+    (map'.space.writable ≡ true) × (n ≡ capacity_of (map_room map')) × (n < length message)
 IsDeclinedOn (Area known block map') message fault.Protocol = 32 < block
 IsDeclinedOn (Area known block map') message fault.Memory = Unit {0}
 IsDeclinedOn (Area known block map') message e = ⊥
 IsDeclinedOn (File map' length') message fault.ReadOnly = map'.writable ≡ false
-IsDeclinedOn (File map' length') message (fault.TooLong n) = (map'.writable ≡ true) × (n ≡ map'.size - 2) × (n < length message)
-IsDeclinedOn (File map' length') message fault.ShortMlc = (map'.writable ≡ true) × (length message ≤ map'.size - 2) × (map'.mlc < 2)
+IsDeclinedOn (File map' length') message (fault.TooLong n) =
+    (map'.writable ≡ true) × (n ≡ map'.size - 2) × (n < length message)
+IsDeclinedOn (File map' length') message fault.ShortMlc =
+    (map'.writable ≡ true) × (length message ≤ map'.size - 2) × (map'.mlc < 2)
 IsDeclinedOn (File map' length') message fault.Memory = Unit {0}
 IsDeclinedOn (File map' length') message e = ⊥
 
@@ -53,16 +57,20 @@ pub record IsDeclinedBy (how : How) (message : List ℕ) (a b : LinkView) (e : W
 
 -- why nothing is written: by the answers to what is read first, or by the ground that they say
 abbrev pub IsUnplannedBy : How → List ℕ → LinkView → LinkView → WriteFault → Type 0
-IsUnplannedBy how message a b e = ((f : ReadFault) × (e ≡ of_read f) × IsUnsurveyedBy how a b f) ⊎ IsDeclinedBy how message a b e
+IsUnplannedBy how message a b e = ((f : ReadFault) × (e ≡ of_read f) × IsUnsurveyedBy how a b f)
+    ⊎ IsDeclinedBy how message a b e
 
 -- what preparing a write tells
 abbrev pub TellsPlan : How → List ℕ → LinkView → LinkView → Result Prepared WriteFault → Type 0
 TellsPlan how message a b (Ok p) = IsPlannedBy how message p.work a b
 TellsPlan how message a b (Err e) = IsUnplannedBy how message a b e
 
--- What a whole write tells, whatever the tag. Success: there is a view of the link at which the work was planned, and since then
--- each write of it was acknowledged. A fault: nothing was written, or some writes were acknowledged, and the next one wasn't.
+-- What a whole write tells, whatever the tag. Success: there is a view of the link at which the work was planned, and
+-- since then each write of it was acknowledged. A fault: nothing was written, or some writes were acknowledged, and the
+-- next one wasn't.
 abbrev pub IsWriteToldBy : How → List ℕ → LinkView → LinkView → Result Unit WriteFault → Type 0
-IsWriteToldBy how message a b (Ok done') = (v : LinkView) × (w : Work) × IsPlannedBy how message w a v × AreAcknowledged how v b (all_commands w)
+IsWriteToldBy how message a b (Ok done') = (v : LinkView) × (w : Work) × IsPlannedBy how message w a v
+    × AreAcknowledged how v b (all_commands w)
 IsWriteToldBy how message a b (Err e) =
-    IsUnplannedBy how message a b e ⊎ ((v : LinkView) × (w : Work) × IsPlannedBy how message w a v × StopsAmong how v b (all_commands w) e)
+    IsUnplannedBy how message a b e ⊎ ((v : LinkView) × (w : Work) × IsPlannedBy how message w a v
+    × StopsAmong how v b (all_commands w) e)

@@ -31,8 +31,8 @@ pub record HasWrittenAll (how : How) (size : ℕ) (message : List ℕ) (a b : Li
   pub asked : IsWriteAsked how size a.step a.state message commands
   pub answered : b.answered ≡ a.answered ++ commands
 
--- What was answered is the first of what is asked, and the last that was asked is the last of these or the next: of what is read
--- first, or of all.
+-- What was answered is the first of what is asked, and the last that was asked is the last of these or the next: of
+-- what is read first, or of all.
 pub record HasBegun (how : How) (size : ℕ) (message : List ℕ) (a b : LinkView) : Type 0 where
   pub commands : List Signal
   pub asked : IsWriteAsked how size a.step a.state message commands
@@ -92,4 +92,5 @@ TellsInCalm how a b result = OfTag how a (λ size. IsCalm a b → IfErr result I
 
 -- By what it tells the store doesn't take the message.
 abbrev pub LeavesUntaken : {A : Type 0} → How → List ℕ → LinkView → Result A WriteFault → Type 0
-LeavesUntaken how message a result = OfTag how a (λ size. IfErr result (λ e. is_told e ≡ true → TakesNot how size a.state.store message))
+LeavesUntaken how message a result =
+    OfTag how a (λ size. IfErr result (λ e. is_told e ≡ true → TakesNot how size a.state.store message))

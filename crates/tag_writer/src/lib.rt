@@ -6,8 +6,9 @@
 //! is written, a command at a time, and `putting` asks for it. Whatever stops a write, the tag holds the old message,
 //! the empty one or the new one.
 //!
-//! What the tag's stores are meanwhile: `specs/Law.antt`. What is asked: `specs/WriteAsked.antt`. `law` says that each write asks
-//! one list, has one place and one outcome, and that a tag refuses it where a block is locked (`specs/Locks.antt`).
+//! What the tag's stores are meanwhile: `specs/Law.antt`. What is asked: `specs/WriteAsked.antt`. `law` says that each
+//! write asks one list, has one place and one outcome, and that a tag refuses it where a block is locked
+//! (`specs/Locks.antt`).
 #![tactic(auto)]
 
 mod fault;

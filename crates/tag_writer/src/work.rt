@@ -30,8 +30,8 @@ pub enum Work {
         how: How,
         plan: Plan,
     },
-    /// To the file of a Type 4 tag: the message, the most bytes of it that one update brings, as MLc allows, and whether
-    /// NLEN has to become 0 first.
+    /// To the file of a Type 4 tag: the message, the most bytes of it that one update brings, as MLc allows, and
+    /// whether NLEN has to become 0 first.
     File {
         message: Items<u8>,
         most: u16,

@@ -5,7 +5,8 @@ ghost use Rattle.tag_reader.specs.Heard.{IsOf};
 ghost use Rattle.tag_writer.specs.Ends.{EndsWork};
 ghost use Rattle.tag_writer.specs.Phases.{how_of};
 ghost use Rattle.tag_writer.specs.WriteTold.{IsWriteToldBy};
-ghost use Rattle.tag_writer.specs.Writing.{KeepsLaw, WritesInOrder, WritesFew, WritesAll, LeavesLink, TellsSuccess, TellsCause, TellsInCalm};
+ghost use Rattle.tag_writer.specs.Writing.{KeepsLaw, WritesInOrder, WritesFew, WritesAll, LeavesLink, TellsSuccess};
+ghost use Rattle.tag_writer.specs.Writing.{TellsCause, TellsInCalm};
 
 use crate::fault::WriteFault;
 use crate::phase::{Opened, Prepared, Stopped};
@@ -41,8 +42,8 @@ pub fn write<T: TagLink>(
     requires ready { T.ready link.old }
     // it leads to a tag of that kind, with that identifier
     requires of { IsOf how (T.seen link.old) }
-    // whatever the tag does: success only where each write was acknowledged, and each fault stands in the tag's answers,
-    // in what they say of the tag, or in the link
+    // whatever the tag does: success only where each write was acknowledged, and each fault stands in the tag's
+    // answers, in what they say of the tag, or in the link
     ensures told { IsWriteToldBy how message.now (T.seen link.old) (T.seen link.new) result }
     // where it is a tag of that kind: the law over the images, whatever the answer is
     ensures law { KeepsLaw how message.now (T.seen link.old) (T.seen link.new) result }

@@ -1,5 +1,6 @@
 -- Blocks of a memory.
-use Rattle.std.proofs.Common.{◌≡◌, ℕ, suc, zero, ◌+◌, ◌-◌, ◌*◌, ◌/◌, ◌<◌, ◌≤◌, Bool, true, false, cond, List, [], ◌∷◌, ◌++◌, not, length, min, max, Option, Some, None, refl, sym, ◌∙◌, ap, arith, inl, inr, eqb}
+use Rattle.std.proofs.Common.{◌≡◌, ℕ, suc, zero, ◌+◌, ◌-◌, ◌*◌, ◌/◌, ◌<◌, ◌≤◌, Bool, true, false, cond, List, [], ◌∷◌, ◌++◌, not, length, min, max, Option, Some, None, refl, sym, ◌∙◌, ap, arith, inl}
+use Rattle.std.proofs.Common.{inr, eqb}
 use Rattle.std.specs.Prelude.{◌||◌, ◌&&◌, ◌==◌, filter, IfSome, IfNone}
 use Rattle.std.specs.Option.{is_some}
 use Rattle.std.specs.List.{range_with_len}

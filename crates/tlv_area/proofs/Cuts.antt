@@ -1,5 +1,6 @@
 -- An area cut at the memory's end.
-use Rattle.std.proofs.Common.{◌≡◌, ℕ, suc, zero, ◌+◌, ◌-◌, ◌*◌, ◌<◌, ◌≤◌, Bool, true, false, List, [], ◌∷◌, ◌++◌, length, refl, sym, ◌∙◌, ap, arith, subst, ltb, leb, eqb, take, inl, inr, ◌⊎◌, drop, min}
+use Rattle.std.proofs.Common.{◌≡◌, ℕ, suc, zero, ◌+◌, ◌-◌, ◌*◌, ◌<◌, ◌≤◌, Bool, true, false, List, [], ◌∷◌, ◌++◌, length, refl, sym, ◌∙◌, ap, arith, subst, ltb, leb, eqb, take, inl, inr, ◌⊎◌, drop}
+use Rattle.std.proofs.Common.{min}
 use Rattle.std.specs.Prelude.{◌&&◌, nat_lt, nat_le, slice_index}
 use Rattle.std.specs.List.{list_all, flat_map, AllByRecursion}
 use Rattle.std.proofs.lemmas.List.{length-append, take-append-le, append_assoc, take-append-drop}

@@ -7,7 +7,8 @@ use Rattle.tlv_area.specs.declared.container.ContainerFault.{ContainerFault}
 use Rattle.tlv_area.specs.declared.container.ContainerFault.TheVariants.{BadSize}
 use Rattle.tlv_area.specs.declared.container.T5Container.TheVariants.{Ready, More}
 use Rattle.tlv_area.specs.Layout.{IsArea}
-use Rattle.tlv_area.specs.Containers.{first_fault, unless, is_none, t5_is_long, t5_container_size, t5_mlen, t5_head_faults, t5_faults, t5_space, T5Area, t5_named, t5_container, t5_is_open, t5_ready, t5_front}
+use Rattle.tlv_area.specs.Containers.{first_fault, unless, is_none, t5_is_long, t5_container_size, t5_mlen, t5_head_faults, t5_faults, t5_space, T5Area, t5_named, t5_container, t5_is_open, t5_ready}
+use Rattle.tlv_area.specs.Containers.{t5_front}
 use Rattle.tlv_area.specs.Stores.{cut, cut_by, named_blocks, t5_reach, t5_area_by, t5_area}
 
 abbrev named_as : Space → Bool → Bool → T5Area

@@ -41,7 +41,8 @@ closed_grown known more least why =
     by_cause : (is_long_plain known ≡ false) ⊎ (8 ≤ length known) → (is_long_plain (known ++ more) && nat_lt (length (known ++ more)) 8) ≡ false
     by_cause (inl plain) =
         let same : is_long_plain (known ++ more) ≡ is_long_plain known =
-        ap (λ rows. is_none (first_fault rows) && t5_is_long (known ++ more)) (heads_same known more least) ∙ ap (λ v. is_none (first_fault (t5_head_faults known)) && v) (long_same known more least) in
+        ap (λ rows. is_none (first_fault rows) && t5_is_long (known ++ more)) (heads_same known more least)
+        ∙ ap (λ v. is_none (first_fault (t5_head_faults known)) && v) (long_same known more least) in
         ap (λ v. v && nat_lt (length (known ++ more)) 8) (same ∙ plain)
     by_cause (inr eight) = ap (λ v. is_long_plain (known ++ more) && v) (at_least known more 8 eight) ∙ and_none (is_long_plain (known ++ more))
 
@@ -65,7 +66,8 @@ head_fault known more f least is =
 -- where the container is whole
 mlen_by : (known more : List ℕ) (v : Bool) → 4 ≤ length known → t5_is_long known ≡ v → (v ≡ true → 8 ≤ length known) → t5_mlen (known ++ more) ≡ t5_mlen known
 mlen_by known more v least is whole =
-    ap (λ l. if l then word (known ++ more) 6 else slice_index (known ++ more) 2) (long_same known more least ∙ is) ∙ by_size v whole ∙ sym (ap (λ l. if l then word known 6 else slice_index known 2) is)
+    ap (λ l. if l then word (known ++ more) 6 else slice_index (known ++ more) 2) (long_same known more least ∙ is) ∙ by_size v whole
+    ∙ sym (ap (λ l. if l then word known 6 else slice_index known 2) is)
   where
     by_size : (l : Bool) → (l ≡ true → 8 ≤ length known) → (if l then word (known ++ more) 6 else slice_index (known ++ more) 2) ≡ (if l then word known 6 else slice_index known 2)
     by_size true fits = (let eight = fits refl in rw (same_at known more 6 (omega (arith, eight)), same_at known more 7 (omega (arith, eight))) refl)

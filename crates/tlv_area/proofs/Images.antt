@@ -1,5 +1,6 @@
 -- What a plan's steps leave.
-use Rattle.std.proofs.Common.{◌≡◌, ℕ, suc, zero, ◌+◌, ◌-◌, ◌*◌, ◌/◌, ◌%◌, ◌<◌, ◌≤◌, Bool, true, false, cond, List, [], ◌∷◌, ◌++◌, length, not, refl, sym, ◌∙◌, ap, arith, subst, take, drop, map, inl, inr, eqb, ltb, leb}
+use Rattle.std.proofs.Common.{◌≡◌, ℕ, suc, zero, ◌+◌, ◌-◌, ◌*◌, ◌/◌, ◌%◌, ◌<◌, ◌≤◌, Bool, true, false, cond, List, [], ◌∷◌, ◌++◌, length, not, refl, sym, ◌∙◌, ap, arith, subst, take, drop, map, inl}
+use Rattle.std.proofs.Common.{inr, eqb, ltb, leb}
 use Rattle.std.specs.Prelude.{◌≢◌, slice_index, ◌||◌, ◌&&◌, ◌==◌, nat_lt, nat_le, filter, min}
 use Rattle.std.specs.List.{range_with_len, list_any, list_all, flat_map, AllByRecursion}
 use Rattle.std.proofs.Math.Nat.{mul-le-mul_right, min-le_left, min-le_right}
@@ -17,14 +18,16 @@ use Rattle.tlv_area.specs.Layout.{Tlv, bytes_at, reserved_by}
 use Rattle.tlv_area.specs.Form.{Holds}
 use Rattle.tlv_area.specs.Map.{IsMap, map_cells, in_ranges}
 use Rattle.tlv_area.specs.Tail.{map_tail, message_tail, new_tail, written, span, map_room, capacity_of}
-use Rattle.tlv_area.specs.Writing.{is_in, SameOutside, IsNew, blocks_below, fill_blocks, home, touches, changes, closed_block, IsStepTo, write_of, block_in, IsPlan, IsWhole, PlanKeeps, EachChanges, writes_of, after_steps, made, steps_of, image}
+use Rattle.tlv_area.specs.Writing.{is_in, SameOutside, IsNew, blocks_below, fill_blocks, home, touches, changes, closed_block, IsStepTo, write_of, block_in, IsPlan, IsWhole, PlanKeeps, EachChanges}
+use Rattle.tlv_area.specs.Writing.{writes_of, after_steps, made, steps_of, image}
 use Rattle.tlv_area.proofs.Steps.{free_below}
 use Rattle.tlv_area.proofs.Places.{message_fits, map_parts, tail_same}
 use Rattle.tlv_area.proofs.Holding.{tail_holds, apart}
 use Rattle.tlv_area.proofs.OneForm.{range_above}
 use Rattle.tlv_area.proofs.Blocks.{block_is, block_bounds, block_within}
 use Rattle.tlv_area.proofs.Filters.{filter_below, filter_has, filter_all, filter_each, Distinct, filter_distinct}
-use Rattle.tlv_area.proofs.Changing.{block_same, made_leaves, made_changes, made_whole, each_append, AreOther, others_kept, fills_change, writes-append, writes_made, writes_none, writes_absent, writes_once}
+use Rattle.tlv_area.proofs.Changing.{block_same, made_leaves, made_changes, made_whole, each_append, AreOther, others_kept, fills_change, writes-append, writes_made, writes_none, writes_absent}
+use Rattle.tlv_area.proofs.Changing.{writes_once}
 use Rattle.tlv_area.proofs.Stepping.{Writes, written_block, steps_write, After, steps_leave, after_append, or_false, length-with_block, block_inside, block_other, block_of-at, block_of-size}
 
 -- what each of a list passes, each of a part passes

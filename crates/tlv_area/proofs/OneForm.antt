@@ -1,5 +1,6 @@
 -- Each memory has one form.
-use Rattle.std.proofs.Common.{◌≡◌, ◌≢◌, ℕ, suc, zero, ◌+◌, ◌-◌, ◌*◌, ◌/◌, ◌%◌, ◌<◌, ◌≤◌, Bool, true, false, cond, List, [], ◌∷◌, ◌++◌, length, not, refl, sym, ◌∙◌, ap, arith, subst, ltb, leb, eqb, take, inl, inr}
+use Rattle.std.proofs.Common.{◌≡◌, ◌≢◌, ℕ, suc, zero, ◌+◌, ◌-◌, ◌*◌, ◌/◌, ◌%◌, ◌<◌, ◌≤◌, Bool, true, false, cond, List, [], ◌∷◌, ◌++◌, length, not, refl, sym, ◌∙◌, ap, arith, subst, ltb, leb, eqb}
+use Rattle.std.proofs.Common.{take, inl, inr}
 use Rattle.std.specs.Prelude.{filter, ◌&&◌, ◌||◌, nat_lt, nat_le, slice_index}
 use Rattle.std.specs.List.{range_with_len, list_all, list_any, flat_map, AllByRecursion}
 use Rattle.std.proofs.lemmas.List.{length-append, length-map, take_at, nil_from_length, append_assoc}

@@ -1,5 +1,6 @@
 -- Free addresses by the runs between ordered ranges.
-use Rattle.std.proofs.Common.{◌≡◌, ℕ, suc, zero, ◌+◌, ◌-◌, ◌<◌, ◌≤◌, Bool, true, false, List, [], ◌∷◌, ◌++◌, length, not, refl, sym, ◌∙◌, ap, arith, min, max, inl, inr, leb, ltb, get_or, take, drop, subst}
+use Rattle.std.proofs.Common.{◌≡◌, ℕ, suc, zero, ◌+◌, ◌-◌, ◌<◌, ◌≤◌, Bool, true, false, List, [], ◌∷◌, ◌++◌, length, not, refl, sym, ◌∙◌, ap, arith, min, max, inl, inr, leb, ltb, get_or, take, drop}
+use Rattle.std.proofs.Common.{subst}
 use Rattle.std.specs.Prelude.{filter, ◌&&◌, ◌||◌}
 use Rattle.std.specs.List.{range_with_len}
 use Rattle.std.proofs.lemmas.Bool.{cases_lt, lt-ltb, le-ltb, le-leb, and_right}

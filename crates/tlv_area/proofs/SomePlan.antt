@@ -1,5 +1,6 @@
 -- Each message that fits has a store that holds it in the place of another, and a plan.
-use Rattle.std.proofs.Common.{◌≡◌, ◌≢◌, ℕ, suc, zero, ◌+◌, ◌-◌, ◌/◌, ◌<◌, ◌≤◌, Bool, true, false, List, [], ◌∷◌, ◌++◌, length, map, refl, sym, ◌∙◌, ap, arith, subst, ltb, eqb, leb, take, drop, inl, inr, ◌⊎◌, append_assoc}
+use Rattle.std.proofs.Common.{◌≡◌, ◌≢◌, ℕ, suc, zero, ◌+◌, ◌-◌, ◌/◌, ◌<◌, ◌≤◌, Bool, true, false, List, [], ◌∷◌, ◌++◌, length, map, refl, sym, ◌∙◌, ap, arith, subst, ltb, eqb, leb, take, drop, inl}
+use Rattle.std.proofs.Common.{inr, ◌⊎◌, append_assoc}
 use Rattle.std.specs.Prelude.{◌||◌, ◌&&◌, if◌then◌else◌, slice_index, slice_set, nat_lt, Option, Some, None}
 use Rattle.std.specs.List.{list_all, flat_map}
 use Rattle.std.proofs.lemmas.Bool.{cases_Bool, cases_lt, cases_eq, eqb-true, eq-eqb, ne_eqb, and_parts, ltb-true, le-ltb}
@@ -57,7 +58,8 @@ put_inside (a ∷ cells) (b ∷ bytes) store ap' long =
     let mid : List ℕ = put_at cells bytes store in
     let here : slice_index (slice_set mid a b) a ≡ b = get_or-set_same mid a b 0 (omega (arith, put_long cells bytes store, ap'.0)) in
     let later : bytes_at (slice_set mid a b) cells ≡ bytes_at mid cells =
-    all_bytes_same mid (slice_set mid a b) cells (λ x there. get_or-set_other mid a x b 0 (λ e. (let k : is_in cells a ≡ true = subst (λ n. is_in cells n ≡ true) e there in let clash : true ≡ false = sym k ∙ ap'.1 in cc))) in
+    all_bytes_same mid (slice_set mid a b) cells
+    (λ x there. get_or-set_other mid a x b 0 (λ e. (let k : is_in cells a ≡ true = subst (λ n. is_in cells n ≡ true) e there in let clash : true ≡ false = sym k ∙ ap'.1 in cc))) in
     ap (λ x. x ∷ bytes_at (slice_set mid a b) cells) here ∙ ap (λ xs. b ∷ xs) (later ∙ put_inside cells bytes store ap'.2 (omega (arith, long)))
 
 pub some_put : (cells bytes store : List ℕ) → Apart (length store) cells → length cells ≡ length bytes → (new : List ℕ) × IsPut cells store new bytes

@@ -1,5 +1,6 @@
 -- How far a walk has come, in the words of layouts.
-use Rattle.std.proofs.Common.{◌≡◌, ◌≢◌, ℕ, suc, zero, ◌+◌, ◌-◌, ◌*◌, ◌/◌, ◌%◌, ◌<◌, ◌≤◌, Bool, true, false, cond, List, [], ◌∷◌, ◌++◌, length, not, refl, sym, ◌∙◌, ap, arith, subst, ltb, eqb, take, inl, inr, ◌⊎◌}
+use Rattle.std.proofs.Common.{◌≡◌, ◌≢◌, ℕ, suc, zero, ◌+◌, ◌-◌, ◌*◌, ◌/◌, ◌%◌, ◌<◌, ◌≤◌, Bool, true, false, cond, List, [], ◌∷◌, ◌++◌, length, not, refl, sym, ◌∙◌, ap, arith, subst, ltb, eqb, take}
+use Rattle.std.proofs.Common.{inl, inr, ◌⊎◌}
 use Rattle.std.specs.Prelude.{filter, ◌&&◌, ◌||◌, nat_lt, slice_index}
 use Rattle.std.specs.List.{range_with_len, list_all, list_any, flat_map, AllByRecursion}
 use Rattle.std.proofs.lemmas.List.{length-map, append-nil, length-take-le, map-append, append_assoc}

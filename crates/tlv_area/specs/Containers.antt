@@ -1,6 +1,7 @@
--- Capability containers (NFC Forum Type 2, Type 4 and Type 5 Tag): which condition refuses one, and the area or the file
--- that it names. The order in which the conditions are tried is this project's own.
-use Rattle.std.specs.Prelude.{ℕ, ◌+◌, ◌*◌, ◌/◌, ◌%◌, Bool, not, ◌||◌, ◌&&◌, ◌==◌, nat_lt, true, false, if◌then◌else◌, List, [], ◌∷◌, ◌++◌, length, slice_index, Option, Some, None, Result, Ok, Err}
+-- Capability containers (NFC Forum Type 2, Type 4 and Type 5 Tag): which condition refuses one, and the area or the
+-- file that it names. The order in which the conditions are tried is this project's own.
+use Rattle.std.specs.Prelude.{ℕ, ◌+◌, ◌*◌, ◌/◌, ◌%◌, Bool, not, ◌||◌, ◌&&◌, ◌==◌, nat_lt, true, false, if◌then◌else◌}
+use Rattle.std.specs.Prelude.{List, [], ◌∷◌, ◌++◌, length, slice_index, Option, Some, None, Result, Ok, Err}
 use Rattle.nfc_base.specs.Words.{word}
 use Rattle.tlv_area.specs.declared.space.Space.{Space}
 use Rattle.tlv_area.specs.declared.container.FileMap.{FileMap}
@@ -42,14 +43,19 @@ t2_faults b =
 
 -- the area behind the first four blocks of four bytes
 abbrev pub t2_space : List ℕ → Space
-t2_space b = record { start = 16; end = 16 + 8 * slice_index b 2; control = true; writable = low_nibble (slice_index b 3) == 0 }
+t2_space b = record {
+  start = 16;
+  end = 16 + 8 * slice_index b 2;
+  control = true;
+  writable = low_nibble (slice_index b 3) == 0;
+}
 
 abbrev pub t2_container : List ℕ → Result Space ContainerFault
 t2_container b = unless (first_fault (t2_faults b)) (t2_space b)
 
--- Type 5, from the first byte on: the magic number E1h, or E2h where blocks have numbers of two bytes; version and access in
--- two bits each of byte 1; the size MLEN in byte 2 or, where that is 0, in bytes 6 and 7, high byte first. Such a container
--- has eight bytes, any other four.
+-- Type 5, from the first byte on: the magic number E1h, or E2h where blocks have numbers of two bytes; version and
+-- access in two bits each of byte 1; the size MLEN in byte 2 or, where that is 0, in bytes 6 and 7, high byte first.
+-- Such a container has eight bytes, any other four.
 abbrev pub t5_is_long : List ℕ → Bool
 t5_is_long b = slice_index b 2 == 0
 
@@ -73,10 +79,15 @@ t5_faults b = t5_head_faults b ++ (nat_lt (length b) (t5_container_size b) || (t
 
 -- the area behind the container; a tag that ends before it cuts it there
 abbrev pub t5_space : List ℕ → Space
-t5_space b = record { start = t5_container_size b; end = t5_container_size b + 8 * t5_mlen b; control = false; writable = slice_index b 1 % 4 == 0 }
+t5_space b = record {
+  start = t5_container_size b;
+  end = t5_container_size b + 8 * t5_mlen b;
+  control = false;
+  writable = slice_index b 1 % 4 == 0;
+}
 
--- What a Type 5 container names: the area, whether blocks have numbers of two bytes, and whether one command may read many
--- blocks, which is bit 0 of byte 3.
+-- What a Type 5 container names: the area, whether blocks have numbers of two bytes, and whether one command may read
+-- many blocks, which is bit 0 of byte 3.
 pub record T5Area : Type 0 where
   pub space : Space
   pub wide : Bool
@@ -89,8 +100,8 @@ t5_named b = record { space = t5_space b; wide = slice_index b 0 == 0xE2; many =
 abbrev pub t5_container : List ℕ → Result T5Area ContainerFault
 t5_container b = unless (first_fault (t5_faults b)) (t5_named b)
 
--- A front of a memory doesn't tell its container: it has fewer than four bytes, or they have no fault and say that there
--- are eight, and it has fewer.
+-- A front of a memory doesn't tell its container: it has fewer than four bytes, or they have no fault and say that
+-- there are eight, and it has fewer.
 abbrev pub t5_is_open : List ℕ → Bool
 t5_is_open b = nat_lt (length b) 4 || (is_none (first_fault (t5_head_faults b)) && t5_is_long b && nat_lt (length b) 8)
 
@@ -102,8 +113,8 @@ t5_ready (Ok area) = Ok (Ready area.space area.wide area.many)
 abbrev pub t5_front : List ℕ → Result T5Container ContainerFault
 t5_front b = if t5_is_open b then Ok More else t5_ready (t5_container b)
 
--- Type 4, bytes 0 to 14: CCLEN at 0, the version at 2, MLe at 3, MLc at 5, the file control TLV with its type and length
--- at 7, the file's identifier at 9, its size at 11, and its access at 13 and 14
+-- Type 4, bytes 0 to 14: CCLEN at 0, the version at 2, MLe at 3, MLc at 5, the file control TLV with its type and
+-- length at 7, the file's identifier at 9, its size at 11, and its access at 13 and 14
 abbrev pub t4_faults : List ℕ → List (Bool × ContainerFault)
 t4_faults b =
     (not (word b 7 == 0x0406), NotNdef)

@@ -1,11 +1,14 @@
 -- The form of an area: what follows the TLVs of its layout.
-use Rattle.std.specs.Prelude.{◌≡◌, ℕ, ◌+◌, ◌*◌, nat_lt, ◌==◌, if◌then◌else◌, List, [], ◌∷◌, ◌++◌, length, slice_index, take, Bool, true, false}
+use Rattle.std.specs.Prelude.{◌≡◌, ℕ, ◌+◌, ◌*◌, nat_lt, ◌==◌, if◌then◌else◌, List, [], ◌∷◌, ◌++◌, length, slice_index}
+use Rattle.std.specs.Prelude.{take, Bool, true, false}
 use Rattle.tlv_area.specs.declared.space.Space.{Space}
 use Rattle.tlv_area.specs.declared.container.ContainerFault.{ContainerFault}
-use Rattle.tlv_area.specs.Layout.{Tlv, Layout, LiesIn, is_known, bytes_at, null_tlv, ndef_message, terminator, long_mark}
+use Rattle.tlv_area.specs.Layout.{Tlv, Layout, LiesIn, is_known, bytes_at, null_tlv, ndef_message, terminator}
+use Rattle.tlv_area.specs.Layout.{long_mark}
 
--- What stands at the addresses that are left: the end of the area or a terminator, a TLV whose length isn't whole before
--- the area's end, is FFFFh or passes that end, a TLV that needs a byte past those that are known, or a whole TLV.
+-- What stands at the addresses that are left: the end of the area or a terminator, a TLV whose length isn't whole
+-- before the area's end, is FFFFh or passes that end, a TLV that needs a byte past those that are known, or a whole
+-- TLV.
 pub data Next : Type 0 where
   End : Next
   Fault : Next
@@ -61,7 +64,8 @@ NeedsMore space memory = Comes space memory Unknown
 -- a layout is followed by an NDEF message TLV with this value
 abbrev pub Holds : Space → List ℕ → List ℕ → Type 0
 Holds space memory message =
-    (ts : List Tlv) × (t : Tlv) × (after : List ℕ) × Layout space memory ts (t.at ++ after) × LiesIn memory t × (t.kind ≡ ndef_message) × (t.value ≡ message)
+    (ts : List Tlv) × (t : Tlv) × (after : List ℕ) × Layout space memory ts (t.at ++ after) × LiesIn memory t
+    × (t.kind ≡ ndef_message) × (t.value ≡ message)
 
 -- what a store holds: its container is faulty, or its area has a message, no message's TLV, or a faulty TLV before one
 pub data Form : Type 0 where

@@ -1,8 +1,10 @@
 -- The layouts of an area: its TLVs, and the addresses that they reserve (NFC Forum Type 2 Tag and Type 5 Tag).
 --
--- The standard walks forward and reserves as it goes. Here all of the TLVs are there at once, each with the addresses of
--- its bytes, and what is reserved is the union of what they reserve: which TLVs lie in an area is one equation.
-use Rattle.std.specs.Prelude.{◌≡◌, ◌≢◌, ℕ, ◌+◌, ◌-◌, ◌*◌, ◌/◌, ◌%◌, ◌^◌, ◌<◌, ◌≤◌, suc, zero, Bool, true, false, not, ◌&&◌, ◌==◌, nat_lt, nat_le, if◌then◌else◌, List, [], ◌∷◌, ◌++◌, length, map, filter, slice_index}
+-- The standard walks forward and reserves as it goes. Here all of the TLVs are there at once, each with the addresses
+-- of its bytes, and what is reserved is the union of what they reserve: which TLVs lie in an area is one equation.
+use Rattle.std.specs.Prelude.{◌≡◌, ◌≢◌, ℕ, ◌+◌, ◌-◌, ◌*◌, ◌/◌, ◌%◌, ◌^◌, ◌<◌, ◌≤◌, suc, zero, Bool, true, false, not}
+use Rattle.std.specs.Prelude.{◌&&◌, ◌==◌, nat_lt, nat_le, if◌then◌else◌, List, [], ◌∷◌, ◌++◌, length, map, filter}
+use Rattle.std.specs.Prelude.{slice_index}
 use Rattle.std.specs.List.{list_any, list_all, flat_map, range_with_len, AllByRecursion}
 use Rattle.tlv_area.specs.declared.space.Space.{Space}
 
@@ -25,8 +27,8 @@ terminator = 0xFE
 abbrev pub long_mark : ℕ
 long_mark = 0xFF
 
--- What is asked of an area: its end isn't before its start, and where lock and memory control count it is one of a tag of
--- one sector, so that at most 201 TLVs reserve a range.
+-- What is asked of an area: its end isn't before its start, and where lock and memory control count it is one of a tag
+-- of one sector, so that at most 201 TLVs reserve a range.
 pub record IsArea (space : Space) : Type 0 where
   pub order : space.start ≤ space.end
   pub small : space.control ≡ true → space.end ≤ space.start + 1008
@@ -75,8 +77,8 @@ pub record LiesIn (memory : List ℕ) (t : Tlv) : Type 0 where
   pub bytes : bytes_at memory t.at ≡ spelling t
 
 -- What a lock or memory control TLV of length 3 names, by its value's bytes: a page number in the high nibble of the
--- first, a byte in that page in its low nibble, how many, with 256 for 0, and the size of a page in the low nibble of the
--- third, as a power of two. Lock control counts bits, eight to a byte, rounded up.
+-- first, a byte in that page in its low nibble, how many, with 256 for 0, and the size of a page in the low nibble of
+-- the third, as a power of two. Lock control counts bits, eight to a byte, rounded up.
 abbrev pub range_start : ℕ → ℕ → ℕ
 range_start place control = place / 16 * 2 ^ (control % 16) + place % 16
 
@@ -103,8 +105,9 @@ reserved_by control ts a = control && list_any (λ t. reserves t a) ts
 abbrev pub free : (ℕ → Bool) → ℕ → ℕ → List ℕ
 free is_reserved at end = filter (λ a. not (is_reserved a)) (range_with_len at (end - at))
 
--- These TLVs, none of which is an NDEF message, lie at the first so many addresses of the area that none of them reserves.
--- `rest` is the addresses that are left, at which the message, a terminator, a faulty TLV or nothing may stand.
+-- These TLVs, none of which is an NDEF message, lie at the first so many addresses of the area that none of them
+-- reserves. `rest` is the addresses that are left, at which the message, a terminator, a faulty TLV or nothing may
+-- stand.
 pub record Layout (space : Space) (memory : List ℕ) (ts : List Tlv) (rest : List ℕ) : Type 0 where
   pub addresses : flat_map (λ t. t.at) ts ++ rest ≡ free (reserved_by space.control ts) space.start space.end
   pub lie : AllByRecursion (LiesIn memory) ts

@@ -1,5 +1,6 @@
 -- The map of an area: where its message lies, by what a walk over a front of the memory tells.
-use Rattle.std.specs.Prelude.{◌≡◌, ℕ, ◌+◌, ◌<◌, ◌≤◌, Bool, ◌&&◌, nat_lt, nat_le, if◌then◌else◌, List, ◌++◌, length, slice_index, take, drop}
+use Rattle.std.specs.Prelude.{◌≡◌, ℕ, ◌+◌, ◌<◌, ◌≤◌, Bool, ◌&&◌, nat_lt, nat_le, if◌then◌else◌, List, ◌++◌, length}
+use Rattle.std.specs.Prelude.{slice_index, take, drop}
 use Rattle.std.specs.List.{list_any, flat_map}
 use Rattle.std.specs.List.Sorted.{IsNonDecreasingBy}
 use Rattle.tlv_area.specs.declared.space.Space.{Space}
@@ -17,7 +18,8 @@ in_ranges rs a = list_any (λ r. nat_le r.0 a && nat_lt a r.1) rs
 abbrev pub IsOrdered : List (ℕ × ℕ) → Type 0
 IsOrdered rs = IsNonDecreasingBy (λ r. r.0) rs
 
--- The map of an area whose TLVs before the message are ts, the message's TLV being t and `after` the addresses behind it.
+-- The map of an area whose TLVs before the message are ts, the message's TLV being t and `after` the addresses behind
+-- it.
 pub record IsMap (memory : List ℕ) (map' : AreaMap) (ts : List Tlv) (t : Tlv) (after : List ℕ) : Type 0 where
   pub layout : Layout map'.space memory ts (t.at ++ after)
   pub lies : LiesIn memory t

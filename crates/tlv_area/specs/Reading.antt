@@ -1,5 +1,6 @@
 -- What the parts of the walk say. No public contract speaks of these.
-use Rattle.std.specs.Prelude.{◌≡◌, ℕ, ◌+◌, ◌-◌, ◌<◌, ◌≤◌, Bool, false, not, ◌&&◌, ◌||◌, ◌==◌, nat_lt, nat_le, if◌then◌else◌, List, ◌∷◌, length, ◌++◌, Option, MatchOption, slice_index, []}
+use Rattle.std.specs.Prelude.{◌≡◌, ℕ, ◌+◌, ◌-◌, ◌<◌, ◌≤◌, Bool, false, not, ◌&&◌, ◌||◌, ◌==◌, nat_lt, nat_le}
+use Rattle.std.specs.Prelude.{if◌then◌else◌, List, ◌∷◌, length, ◌++◌, Option, MatchOption, slice_index, []}
 use Rattle.std.specs.List.{list_all}
 use Rattle.tlv_area.specs.declared.ahead.Ahead.{Ahead}
 use Rattle.tlv_area.specs.declared.ahead.Ahead.TheVariants as ahead
@@ -20,7 +21,8 @@ pub record IsPast (is_reserved : ℕ → Bool) (at end n p : ℕ) : Type 0 where
 -- the bytes of a value of three, and that the memory has them
 abbrev pub three_bytes : List ℕ → Found → List ℕ
 three_bytes memory found =
-    slice_index memory (found.first - 1) ∷ slice_index memory (found.second - 1) ∷ slice_index memory (found.past - 1) ∷ []
+    slice_index memory (found.first - 1) ∷ slice_index memory (found.second - 1) ∷ slice_index memory (found.past - 1)
+    ∷ []
 
 pub record HasThree (memory : List ℕ) (found : Found) : Type 0 where
   pub first_low : 0 < found.first
@@ -53,16 +55,23 @@ IsAhead is_reserved memory at end (ahead.Item found) =
     (t : Tlv) × (next memory (free is_reserved at end) ≡ Item t) × IsFound is_reserved memory at end found t
 
 -- what a value that is there says, whatever the addresses of the header are
-pub record IsValue (is_reserved : ℕ → Bool) (memory : List ℕ) (from end kind : ℕ) (long : Bool) (n : ℕ) (found : Found) : Type 0 where
+pub record IsValue (is_reserved : ℕ → Bool) (memory : List ℕ) (from end kind : ℕ) (long : Bool) (n : ℕ) (found : Found)
+    : Type 0 where
   pub kind' : found.kind ≡ kind
   pub long' : found.long ≡ long
   pub from' : found.from ≡ from
   pub size : found.length ≡ n
   pub value : IsPast is_reserved from end n found.past
   pub known : found.past ≤ length memory
-  pub three : n ≡ 3 → HasThree memory found × (bytes_at memory (free is_reserved from found.past) ≡ three_bytes memory found)
+  pub three : n ≡ 3
+      → HasThree memory found × (bytes_at memory (free is_reserved from found.past) ≡ three_bytes memory found)
   pub next' : (header : List ℕ) → value_next memory kind long header n (free is_reserved from end)
-      ≡ Item (record { kind = kind; long = long; value = bytes_at memory (free is_reserved from found.past); at = header ++ free is_reserved from found.past })
+      ≡ Item (record {
+        kind = kind;
+        long = long;
+        value = bytes_at memory (free is_reserved from found.past);
+        at = header ++ free is_reserved from found.past;
+      })
 
 -- the length that stands from `at` on leads to a value of so many bytes from `from` on
 pub record IsLength (is_reserved : ℕ → Bool) (memory : List ℕ) (at end : ℕ) (long : Bool) (size from : ℕ) : Type 0 where
@@ -74,9 +83,12 @@ pub record IsLength (is_reserved : ℕ → Bool) (memory : List ℕ) (at end : �
       ≡ value_next memory kind long (a ∷ free is_reserved at from) size (free is_reserved from end)
 
 abbrev pub IsLengthAhead : (ℕ → Bool) → List ℕ → ℕ → ℕ → LengthAhead → Type 0
-IsLengthAhead is_reserved memory at end of_length.Fault = (kind a : ℕ) → length_next memory kind a (free is_reserved at end) ≡ Fault
-IsLengthAhead is_reserved memory at end of_length.Unknown = (kind a : ℕ) → length_next memory kind a (free is_reserved at end) ≡ Unknown
-IsLengthAhead is_reserved memory at end (of_length.Value long size from) = IsLength is_reserved memory at end long size from
+IsLengthAhead is_reserved memory at end of_length.Fault =
+    (kind a : ℕ) → length_next memory kind a (free is_reserved at end) ≡ Fault
+IsLengthAhead is_reserved memory at end of_length.Unknown =
+    (kind a : ℕ) → length_next memory kind a (free is_reserved at end) ≡ Unknown
+IsLengthAhead is_reserved memory at end (of_length.Value long size from) =
+    IsLength is_reserved memory at end long size from
 
 -- what the value of a TLV is, from `from` on
 abbrev pub IsValueAhead : (ℕ → Bool) → List ℕ → ℕ → ℕ → ℕ → Bool → ℕ → Ahead → Type 0

@@ -1,5 +1,6 @@
 -- The form of a tag's store: its container and, where that isn't faulty, its area.
-use Rattle.std.specs.Prelude.{◌≡◌, ℕ, ◌+◌, ◌*◌, min, if◌then◌else◌, Bool, List, [], ◌∷◌, length, slice_index, Result, Ok, Err}
+use Rattle.std.specs.Prelude.{◌≡◌, ℕ, ◌+◌, ◌*◌, min, if◌then◌else◌, Bool, List, [], ◌∷◌, length, slice_index, Result}
+use Rattle.std.specs.Prelude.{Ok, Err}
 use Rattle.tlv_area.specs.declared.space.Space.{Space}
 use Rattle.tlv_area.specs.declared.container.ContainerFault.{ContainerFault}
 use Rattle.tlv_area.specs.declared.container.T5Container.{T5Container}
@@ -10,7 +11,8 @@ use Rattle.tlv_area.specs.Form.{Form, Faulty, IsForm}
 
 -- four bytes from one on
 abbrev pub four_bytes : List ℕ → ℕ → List ℕ
-four_bytes store i = slice_index store i ∷ slice_index store (i + 1) ∷ slice_index store (i + 2) ∷ slice_index store (i + 3) ∷ []
+four_bytes store i = slice_index store i ∷ slice_index store (i + 1) ∷ slice_index store (i + 2)
+    ∷ slice_index store (i + 3) ∷ []
 
 -- the container's fault, or the form of the area that it names
 abbrev pub IsFormBy : Result Space ContainerFault → List ℕ → Form → Type 0
@@ -33,7 +35,8 @@ IsT2Form store f = IsFormBy (t2_container (four_bytes store 12)) store f
 abbrev pub named_blocks : Bool → ℕ
 named_blocks wide = if wide then 65536 else 256
 
--- The area that the container of a Type 5 store of blocks of so many bytes names. It ends where block numbers do at the latest.
+-- The area that the container of a Type 5 store of blocks of so many bytes names. It ends where block numbers do at the
+-- latest.
 abbrev pub t5_reach : ℕ → T5Area → Space
 t5_reach size area = cut area.space (named_blocks area.wide * size)
 

@@ -1,5 +1,6 @@
 -- Where a message is written: the addresses of the old one's TLV from its second byte on, and what stands there then.
-use Rattle.std.specs.Prelude.{ℕ, ◌+◌, ◌-◌, min, Bool, nat_lt, nat_le, if◌then◌else◌, List, [], ◌∷◌, ◌++◌, length, take, drop}
+use Rattle.std.specs.Prelude.{ℕ, ◌+◌, ◌-◌, min, Bool, nat_lt, nat_le, if◌then◌else◌, List, [], ◌∷◌, ◌++◌, length, take}
+use Rattle.std.specs.Prelude.{drop}
 use Rattle.tlv_area.specs.declared.space.AreaMap.{AreaMap}
 use Rattle.tlv_area.specs.Layout.{length_bytes, terminator}
 use Rattle.tlv_area.specs.Map.{map_cells}
@@ -17,12 +18,13 @@ map_tail m = drop (m.tlv + 1) (map_cells m)
 abbrev pub map_room : AreaMap → ℕ
 map_room m = length (map_cells m) - m.tlv
 
--- How long a message may be in so many: type and length take two of them up to a length of 254, else four. Of 257 or 258 a
--- length of three bytes would leave fewer than 255, so the last one or two stay for the terminator.
+-- How long a message may be in so many: type and length take two of them up to a length of 254, else four. Of 257 or
+-- 258 a length of three bytes would leave fewer than 255, so the last one or two stay for the terminator.
 abbrev pub capacity_of : ℕ → ℕ
 capacity_of room = if nat_le room 256 then room - 2 else if nat_le room 258 then 254 else min (room - 4) 65534
 
--- What a message has written there: its length in the shortest form, the message, and a terminator where a byte is left.
+-- What a message has written there: its length in the shortest form, the message, and a terminator where a byte is
+-- left.
 abbrev pub is_long : List ℕ → Bool
 is_long message = nat_lt 254 (length message)
 

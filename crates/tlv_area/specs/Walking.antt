@@ -52,14 +52,22 @@ pub record IsNext (walker : Walker) (memory : List ℕ) (found : Found) (t : Tlv
 -- what stands next is the end, a fault, a TLV that isn't known, or the message
 abbrev pub StopsAt : Walker → List ℕ → Ahead → Type 0
 StopsAt walker memory ahead.End = next memory (free (in_ranges walker.reserved.items) walker.at walker.space.end) ≡ End
-StopsAt walker memory ahead.Fault = next memory (free (in_ranges walker.reserved.items) walker.at walker.space.end) ≡ Fault
-StopsAt walker memory ahead.Unknown = next memory (free (in_ranges walker.reserved.items) walker.at walker.space.end) ≡ Unknown
+StopsAt walker memory ahead.Fault = next memory (free (in_ranges walker.reserved.items) walker.at walker.space.end)
+    ≡ Fault
+StopsAt walker memory ahead.Unknown = next memory (free (in_ranges walker.reserved.items) walker.at walker.space.end)
+    ≡ Unknown
 StopsAt walker memory (ahead.Item found) = (t : Tlv) × IsNext walker memory found t × (found.kind ≡ ndef_message)
 
 -- the map where it is the message
 abbrev pub map_here : Walker → Found → AreaMap
 map_here walker found =
-    record { space = walker.space; reserved = walker.reserved; tlv = walker.tlv; long = found.long; length = found.length }
+    record {
+      space = walker.space;
+      reserved = walker.reserved;
+      tlv = walker.tlv;
+      long = found.long;
+      length = found.length;
+    }
 
 -- what a walk over a front of the memory tells
 pub record Finds (space : Space) (known : List ℕ) (result : Walk) : Type 0 where

@@ -1,10 +1,12 @@
 //! The capability container of a tag: the area or the file that it names.
 
-ghost use Rattle.std.specs.Prelude.{◌≡◌, ◌≢◌, ℕ, ◌+◌, ◌*◌, ◌%◌, ◌<◌, ◌≤◌, ◌==◌, ◌↔◌, ◌++◌, List, length, slice_index, false, Ok, Err, Some, IfOk};
+ghost use Rattle.std.specs.Prelude.{◌≡◌, ◌≢◌, ℕ, ◌+◌, ◌*◌, ◌%◌, ◌<◌, ◌≤◌, ◌==◌, ◌↔◌, ◌++◌, List, length, slice_index};
+ghost use Rattle.std.specs.Prelude.{false, Ok, Err, Some, IfOk};
 ghost use Rattle.tlv_area.specs.declared.container.ContainerFault.{ContainerFault};
 ghost use Rattle.tlv_area.specs.Layout.{IsArea};
 ghost use Rattle.tlv_area.specs.Stores.{IsReadyArea};
-ghost use Rattle.tlv_area.specs.Containers.{first_fault, t2_faults, t2_container, t5_head_faults, t5_faults, t5_is_open, t5_front, t4_faults, t4_container, container_fault_number};
+ghost use Rattle.tlv_area.specs.Containers.{first_fault, t2_faults, t2_container, t5_head_faults, t5_faults};
+ghost use Rattle.tlv_area.specs.Containers.{t5_is_open, t5_front, t4_faults, t4_container, container_fault_number};
 ghost use Rattle.nfc_base.specs.Words.{word};
 
 use crate::space::Space;
@@ -152,9 +154,9 @@ fn ready_t5(known: &[u8], start: u32, size: u32) -> T5Container
     }
 }
 
-/// The container of a Type 5 tag, which is its first four bytes, or its first eight (NFC Forum Type 5 Tag): `known` is the
-/// memory from address 0. The area ends where the container says, also where the tag ends before, or its block numbers do.
-/// It takes no memory.
+/// The container of a Type 5 tag, which is its first four bytes, or its first eight (NFC Forum Type 5 Tag): `known` is
+/// the memory from address 0. The area ends where the container says, also where the tag ends before, or its block
+/// numbers do. It takes no memory.
 pub fn container_t5(known: &[u8]) -> Result<T5Container, ContainerFault>
     ensures exact { result ≡ t5_front known.now }
     // what isn't open stays so in each memory that begins with it

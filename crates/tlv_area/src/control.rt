@@ -1,6 +1,7 @@
 //! The range that a lock or memory control TLV reserves (NFC Forum Type 2 Tag).
 
-ghost use Rattle.std.specs.Prelude.{◌≡◌, ℕ, ◌+◌, ◌<◌, ◌≤◌, ◌^◌, ◌&&◌, ◌||◌, ◌⊎◌, not, nat_lt, nat_le, length, take, true, [], ◌∷◌, IfSome};
+ghost use Rattle.std.specs.Prelude.{◌≡◌, ℕ, ◌+◌, ◌<◌, ◌≤◌, ◌^◌, ◌&&◌, ◌||◌, ◌⊎◌, not, nat_lt, nat_le, length, take};
+ghost use Rattle.std.specs.Prelude.{true, [], ◌∷◌, IfSome};
 ghost use Rattle.std.specs.List.{All};
 ghost use Rattle.tlv_area.specs.Layout.{range_start, range_count, range_has};
 ghost use Rattle.tlv_area.specs.Map.{in_ranges, IsOrdered};

@@ -54,8 +54,8 @@ fn cut_at(space: &Space, length: usize) -> Space
     }
 }
 
-/// The area that a Type 5 tag of blocks of so many bytes can name by its block numbers: E1h says that they have one byte,
-/// E2h that they have two (`wide`).
+/// The area that a Type 5 tag of blocks of so many bytes can name by its block numbers: E1h says that they have one
+/// byte, E2h that they have two (`wide`).
 pub fn reach(space: &Space, wide: bool, block: usize) -> Space
     requires { block ≤ 256 }
     ensures { (many : Bool) → result ≡ t5_reach block (record { space = space.now; wide = wide; many = many }) }

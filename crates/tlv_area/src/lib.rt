@@ -1,9 +1,9 @@
 //! The message that a tag's store holds, where its memory is an area of TLVs (NFC Forum Type 2 Tag and Type 5 Tag).
 //!
-//! `container` reads the capability container, which names a `space`. `walk` goes over the TLVs of a space and makes the
-//! map of its message: `ahead` reads one TLV, `control` takes the range that a control TLV reserves, and `ranges` goes over
-//! the free addresses between ranges. `message` gives the message's bytes and their addresses. `form` says that each store
-//! has exactly one form.
+//! `container` reads the capability container, which names a `space`. `walk` goes over the TLVs of a space and makes
+//! the map of its message: `ahead` reads one TLV, `control` takes the range that a control TLV reserves, and `ranges`
+//! goes over the free addresses between ranges. `message` gives the message's bytes and their addresses. `form` says
+//! that each store has exactly one form.
 //!
 //! `room` tells how long a new message may be, `planning` makes the plan that writes it, a `step` for each block, and
 //! `writing` makes the store that it leaves.

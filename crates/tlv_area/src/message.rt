@@ -2,7 +2,8 @@
 
 ghost use Rattle.std.specs.Prelude.{◌≡◌, ◌<◌, ◌≤◌, ◌++◌, slice_index, length, drop, if◌then◌else◌, IfOk, OnOk};
 ghost use Rattle.tlv_area.specs.Layout.{free, bytes_at};
-ghost use Rattle.tlv_area.specs.Map.{in_ranges, IsOrdered, IsPlaced, IsPlacedIn, map_cells, message_cells, message_place, header_size};
+ghost use Rattle.tlv_area.specs.Map.{in_ranges, IsOrdered, IsPlaced, IsPlacedIn, map_cells, message_cells};
+ghost use Rattle.tlv_area.specs.Map.{message_place, header_size};
 
 use crate::ranges::{past, run_before};
 use crate::space::AreaMap;
@@ -16,8 +17,8 @@ fn header_size(long: bool) -> u32
     if long { 4 } else { 2 }
 }
 
-/// The address of a byte of the message. It takes no memory, and no longer for a later byte; but it goes over the ranges anew
-/// for each: `copy_message` gives all of the bytes at once.
+/// The address of a byte of the message. It takes no memory, and no longer for a later byte; but it goes over the
+/// ranges anew for each: `copy_message` gives all of the bytes at once.
 pub fn message_byte(map: &AreaMap, index: u32) -> u32
     requires placed { IsPlaced map.now }
     requires index { index < map.now.length }

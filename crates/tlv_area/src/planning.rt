@@ -1,12 +1,14 @@
 //! The plan of a message: which blocks are written for it, in which order.
 
-ghost use Rattle.std.specs.Prelude.{◌≡◌, ◌+◌, ◌*◌, ◌^◌, ◌<◌, ◌≤◌, ◌↔◌, ◌&&◌, ◌==◌, ◌++◌, List, ℕ, not, length, map as list_map, IfOk, OnOk, IsErrOf};
+ghost use Rattle.std.specs.Prelude.{◌≡◌, ◌+◌, ◌*◌, ◌^◌, ◌<◌, ◌≤◌, ◌↔◌, ◌&&◌, ◌==◌, ◌++◌, List, ℕ, not, length};
+ghost use Rattle.std.specs.Prelude.{map as list_map, IfOk, OnOk, IsErrOf};
 ghost use Rattle.tlv_area.specs.declared.planning.PlanFault.{PlanFault};
 ghost use Rattle.tlv_area.specs.declared.planning.PlanFault.TheVariants.{TooLong, Memory};
 ghost use Rattle.tlv_area.specs.Layout.{free};
 ghost use Rattle.tlv_area.specs.Map.{in_ranges, IsOrdered, IsPlaced};
 ghost use Rattle.tlv_area.specs.Tail.{map_room, capacity_of};
-ghost use Rattle.tlv_area.specs.Writing.{HasBlocks, blocks_below, touches, blocks_changed, write_of, block_in, GivesPlan, KeepsPlan, KeepsKinds, plan_fault_number};
+ghost use Rattle.tlv_area.specs.Writing.{HasBlocks, blocks_below, touches, blocks_changed, write_of, block_in};
+ghost use Rattle.tlv_area.specs.Writing.{GivesPlan, KeepsPlan, KeepsKinds, plan_fault_number};
 
 use crate::ranges::{count_free, past};
 use crate::room::capacity;

@@ -1,8 +1,8 @@
 //! Addresses that control TLVs reserve, and the runs of free ones between them.
 //!
-//! Whoever goes over an area goes over its ranges, once, and takes a whole run of free addresses at a time: so each call
-//! costs what the ranges cost, however many addresses lie between them. The ranges stand in ascending order, or a run that
-//! ends at one of them could pass through another.
+//! Whoever goes over an area goes over its ranges, once, and takes a whole run of free addresses at a time: so each
+//! call costs what the ranges cost, however many addresses lie between them. The ranges stand in ascending order, or a
+//! run that ends at one of them could pass through another.
 
 ghost use Rattle.std.specs.Prelude.{◌≡◌, ◌-◌, ◌<◌, ◌≤◌, length, min, max, IfSome, IfNone};
 ghost use Rattle.tlv_area.specs.Layout.{free};

@@ -18,8 +18,8 @@ const SHORT_HEADER: u32 = 2;
 
 const LONG_HEADER: u32 = 4;
 
-/// How long a message may be that takes the place of the one that is there. The map is of the area cut at the tag's end:
-/// bytes that an area has and the tag hasn't count as room here. It takes no memory.
+/// How long a message may be that takes the place of the one that is there. The map is of the area cut at the tag's
+/// end: bytes that an area has and the tag hasn't count as room here. It takes no memory.
 pub fn capacity(map: &AreaMap) -> u32
     requires placed { IsPlaced map.now }
     ensures exact { result ≡ capacity_of (map_room map.now) }

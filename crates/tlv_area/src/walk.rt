@@ -28,7 +28,8 @@ pub enum Walk {
 
 /// A walk over an area that goes on where it stopped, once more of the memory is known.
 ///
-/// It stands at the TLV at `at`, with `tlv` addresses that aren't reserved before it. The first `passed` ranges end before.
+/// It stands at the TLV at `at`, with `tlv` addresses that aren't reserved before it. The first `passed` ranges end
+/// before.
 #[derive(Debug, Drop)]
 pub struct Walker {
     space: Space,
@@ -75,8 +76,8 @@ impl Walker {
         }
     }
 
-    /// Goes on over a front of the memory, and tells whether it needs a byte behind it: `known` is the memory from address 0
-    /// on, and begins with what was known when the walk stopped. It takes no memory.
+    /// Goes on over a front of the memory, and tells whether it needs a byte behind it: `known` is the memory from
+    /// address 0 on, and begins with what was known when the walk stopped. It takes no memory.
     pub fn needs_more(&mut self, known: &[u8]) -> bool
         requires come { HasCome self.old known.now }
         ensures more { (result ≡ true) ↔ NeedsMore self.old.space known.now }
@@ -109,8 +110,8 @@ impl Walker {
         ensures space { self.new.space ≡ self.old.space }
         ensures stops { StopsAt self.new known.now result }
     {
-        // It goes over each TLV once, also where it stopped between two of them, and looks only at the ranges ahead of it.
-        // So a walk, and a whole reading that goes on with one, costs what the area's bytes and TLVs cost, once.
+        // It goes over each TLV once, also where it stopped between two of them, and looks only at the ranges ahead of
+        // it. So a walk, and a whole reading that goes on with one, costs what the area's bytes and TLVs cost, once.
         'walk: while self.at <= self.space.end {
             let ahead = &self.reserved.as_slice()[self.passed..];
             match look_ahead(ahead, self.at, self.space.end, known) {

@@ -15,7 +15,9 @@ use Rattle.bench_script.specs.Canonical.{hex_text, frame_text}
 use Rattle.bench_devices.specs.declared.polling.SeenKind.{SeenKind}
 use Rattle.bench_devices.specs.declared.polling.SeenKind.TheVariants as kinds
 use Rattle.bench_world.specs.declared.entry.Answer.{Answer as Said}
-use Rattle.bench_world.specs.declared.entry.Answer.TheVariants.{Done, Store, Found, Crowd, T3None, T3One, T3Crowd, Message, NotNdef, Version, NoRead, Sectors, BadSize, NoMessageTlv, BadTlv, Unfinished, Disturbed, FieldLost, NotFound, SixBad, Written, Refused, ReadOnly, TooLong, ShortMlc, WrongKind, Inbox, Linked, Success, Reject, Value, NoValue, Excess, NotImplemented, Sap, LinkEnded, Replies, Heard, Puts, Unlinked, NoLink}
+use Rattle.bench_world.specs.declared.entry.Answer.TheVariants.{Done, Store, Found, Crowd, T3None, T3One, T3Crowd, Message, NotNdef, Version, NoRead, Sectors, BadSize, NoMessageTlv, BadTlv}
+use Rattle.bench_world.specs.declared.entry.Answer.TheVariants.{Unfinished, Disturbed, FieldLost, NotFound, SixBad, Written, Refused, ReadOnly, TooLong, ShortMlc, WrongKind, Inbox, Linked, Success}
+use Rattle.bench_world.specs.declared.entry.Answer.TheVariants.{Reject, Value, NoValue, Excess, NotImplemented, Sap, LinkEnded, Replies, Heard, Puts, Unlinked, NoLink}
 use Rattle.bench_world.specs.declared.entry.Loss.{Loss}
 use Rattle.bench_world.specs.declared.entry.Loss.TheVariants as losses
 use Rattle.bench_world.specs.declared.entry.Received.{Received}
@@ -23,7 +25,8 @@ use Rattle.bench_world.specs.declared.entry.RawHeard.{RawHeard}
 use Rattle.bench_world.specs.declared.entry.RawHeard.TheVariants as heard
 use Rattle.bench_world.specs.declared.entry.SlotDone.{SlotDone}
 use Rattle.bench_world.specs.declared.entry.Seen.{Seen}
-use Rattle.bench_world.specs.Report.{access_text, answer_text, code_text, event_text, fate_text, found_text, heard_text, inbox_text, kind_text, loss_text, outcome_text, received_text, reply_text, seen_text, sent_text, slot_done_text, source_text, tag_text, tags_text}
+use Rattle.bench_world.specs.Report.{access_text, answer_text, code_text, event_text, fate_text, found_text, heard_text, inbox_text, kind_text, loss_text, outcome_text, received_text, reply_text}
+use Rattle.bench_world.specs.Report.{seen_text, sent_text, slot_done_text, source_text, tag_text, tags_text}
 use Rattle.snep_core.specs.Talk.{client_sap}
 
 -- whether no LF is in the text
@@ -63,7 +66,8 @@ clean_digits : (k n : ℕ) (more : List ℕ) → IsClean more → IsClean (digit
 clean_digits zero n more e = e
 clean_digits (suc k) n more e =
     let one : IsClean (digit_glyph false (n % 10) ∷ more) = clean_on (digit_glyph false (n % 10)) more (clean_glyph (n % 10) (nat_lt (n % 10) 10)) e in
-    clean_if (n / 10 == 0) (digit_glyph false (n % 10) ∷ more) (digits_onto k 10 false (n / 10) (digit_glyph false (n % 10) ∷ more)) one (clean_digits k (n / 10) (digit_glyph false (n % 10) ∷ more) one)
+    clean_if (n / 10 == 0) (digit_glyph false (n % 10) ∷ more) (digits_onto k 10 false (n / 10) (digit_glyph false (n % 10) ∷ more)) one
+    (clean_digits k (n / 10) (digit_glyph false (n % 10) ∷ more) one)
 
 clean_decimal : (n : ℕ) → IsClean (decimal n)
 unfolding digits
@@ -148,7 +152,8 @@ clean_received r =
 
 clean_inbox : (messages : List Received) → IsClean (inbox_text messages)
 clean_inbox messages =
-    clean_append (codes "inbox " ++ decimal (length messages)) (flat_map received_text messages) (clean_numbered (codes "inbox ") refl (length messages)) (clean_all received_text clean_received messages)
+    clean_append (codes "inbox " ++ decimal (length messages)) (flat_map received_text messages) (clean_numbered (codes "inbox ") refl (length messages))
+    (clean_all received_text clean_received messages)
 
 clean_heard : (h : RawHeard) → IsClean (heard_text h)
 clean_heard (heard.Whole f) = clean_append (codes " ") (frame_text f) refl (clean_frame f)

@@ -47,7 +47,8 @@ asking_more n [] ks = ap (λ m. asking_lines m ks) (let e : n ≡ n + 0 = omega 
 asking_more n (l ∷ ls) ks =
     by_skip (is_skipped l) (asking_more (n + 1) ls ks ∙ ap (λ m. asking_lines (n + 1) ls ++ asking_lines m ks) (let e : n + 1 + length ls ≡ n + length (l ∷ ls) = omega arith in e))
   where
-    by_skip : (v : Bool) → asking_lines (n + 1) (ls ++ ks) ≡ asking_lines (n + 1) ls ++ asking_lines (n + length (l ∷ ls)) ks → (if v then asking_lines (n + 1) (ls ++ ks) else record { number = n; text = l } ∷ asking_lines (n + 1) (ls ++ ks))
+    by_skip : (v : Bool) → asking_lines (n + 1) (ls ++ ks) ≡ asking_lines (n + 1) ls ++ asking_lines (n + length (l ∷ ls)) ks
+        → (if v then asking_lines (n + 1) (ls ++ ks) else record { number = n; text = l } ∷ asking_lines (n + 1) (ls ++ ks))
         ≡ (if v then asking_lines (n + 1) ls else record { number = n; text = l } ∷ asking_lines (n + 1) ls) ++ asking_lines (n + length (l ∷ ls)) ks
     by_skip true at = at
     by_skip false at = ap (λ x. record { number = n; text = l } ∷ x) at

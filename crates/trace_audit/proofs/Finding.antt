@@ -1,5 +1,6 @@
 -- What stands in the text of an event, and where it is cut.
-use Rattle.std.proofs.Common.{◌≡◌, ◌≢◌, ℕ, zero, suc, ◌+◌, ◌-◌, ◌*◌, ◌/◌, ◌%◌, ◌<◌, ◌≤◌, ◌^◌, List, [], ◌∷◌, ◌++◌, length, append_assoc, take, drop, get_or, Bool, true, false, ◌==◌, refl, sym, ◌∙◌, ap, subst, arith, Ok, Some, None}
+use Rattle.std.proofs.Common.{◌≡◌, ◌≢◌, ℕ, zero, suc, ◌+◌, ◌-◌, ◌*◌, ◌/◌, ◌%◌, ◌<◌, ◌≤◌, ◌^◌, List, [], ◌∷◌, ◌++◌, length, append_assoc, take, drop, get_or, Bool, true, false, ◌==◌, refl, sym, ◌∙◌}
+use Rattle.std.proofs.Common.{ap, subst, arith, Ok, Some, None}
 use Rattle.std.specs.Prelude.{codes, if◌then◌else◌, Result, MatchResult, Err}
 use Rattle.std.specs.List.{All}
 use Rattle.std.specs.Fmt.{decimal}

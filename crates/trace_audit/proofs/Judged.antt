@@ -54,7 +54,8 @@ walks_first script report bench w new going none all = record {
 }
 
 -- the line that comes next
-module _ (script report left rest text : List ℕ) (line : ℕ) (old : Benched) (w : Walk) (few : length script < 2 ^ 32) (at : WalksAt script report left line old w) (next : lines_of left ≡ text ∷ lines_of rest) where
+module _ (script report left rest text : List ℕ) (line : ℕ) (old : Benched) (w : Walk) (few : length script < 2 ^ 32) (at : WalksAt script report left line old w)
+    (next : lines_of left ≡ text ∷ lines_of rest) where
   parts_here : lines_of script ≡ at.done ++ text ∷ lines_of rest
   parts_here = at.parts ∙ ap (λ ls. at.done ++ ls) next
 
@@ -84,7 +85,8 @@ module _ (script report left rest text : List ℕ) (line : ℕ) (old : Benched) 
   pub walk_refused : (fault : AuditFault) → RefusedAt old.state (line + 1) text fault → RefusesScript (lines_of script) fault
   walk_refused Memory why = tt
   walk_refused (Script n) why =
-      let at_done : IsUnauditedAt (at.done ++ text ∷ lines_of rest) (length at.done + 1) = stands_refused (at.done ++ text ∷ lines_of rest) at.done text (lines_of rest) old report w stands_here why.1 in
+      let at_done : IsUnauditedAt (at.done ++ text ∷ lines_of rest) (length at.done + 1) = stands_refused (at.done ++ text ∷ lines_of rest) at.done text (lines_of rest) old report w stands_here
+      why.1 in
       subst (IsUnauditedAt (lines_of script)) (sym (why.0 ∙ number)) (subst (λ ls. IsUnauditedAt ls (length at.done + 1)) (sym parts_here) at_done)
 
 -- Behind the last line.

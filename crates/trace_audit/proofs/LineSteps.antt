@@ -26,7 +26,8 @@ pub adds_of : (old new : Benched) (n : ℕ) (c : Command) → Obeys old new n c 
 adds_of old new n Skip p other = absurd (other refl)
 adds_of old new n c p other = p
 
-module _ (done : List (List ℕ)) (text : List ℕ) (after : List (List ℕ)) (old new : Benched) (report : List ℕ) (line : ℕ) (number : line ≡ length done + 1) (few : length (done ++ text ∷ after) < 2 ^ 32) where
+module _ (done : List (List ℕ)) (text : List ℕ) (after : List (List ℕ)) (old new : Benched) (report : List ℕ) (line : ℕ) (number : line ≡ length done + 1)
+    (few : length (done ++ text ∷ after) < 2 ^ 32) where
   abbrev all_lines : List (List ℕ)
   all_lines = done ++ text ∷ after
 
@@ -45,7 +46,8 @@ module _ (done : List (List ℕ)) (text : List ℕ) (after : List (List ℕ)) (o
     at_event count w s =
         walk_strays done text after old new report good left line c s.events s.behind number w few spells asks s.read count s.follows s.follows.on_air
 
-    steps : (v : Bool) (rest : List ℕ) (count : ℕ) → Walked done old report good left → StepsTo v old new line c left rest count → StandsBy v all_lines (done ++ text ∷ []) new report (good + count) rest
+    steps : (v : Bool) (rest : List ℕ) (count : ℕ) → Walked done old report good left → StepsTo v old new line c left rest count
+        → StandsBy v all_lines (done ++ text ∷ []) new report (good + count) rest
     steps false rest count w s = stays rest count w s
     steps true rest count w (inl s) = at_answer count w s
     steps true rest count w (inr s) = at_event count w s
@@ -60,7 +62,8 @@ module _ (done : List (List ℕ)) (text : List ℕ) (after : List (List ℕ)) (o
   step_on w w' c spells asks stands s =
       subst (λ k. StandsBy w'.strayed all_lines (done ++ text ∷ []) new report k w'.left.now) (sym s.good) (steps w.good w.left.now c spells asks w'.strayed w'.left.now s.lines stands s.step)
 
-  obey_on : (w w' : Walk) (c : Command) → Spells text c → (c ≡ Skip → ⊥) → w.strayed ≡ true → Strayed all_lines done old report (w.good + 1) → ObeysOn old new line c w w' → Stands all_lines (done ++ text ∷ []) new report w'
+  obey_on : (w w' : Walk) (c : Command) → Spells text c → (c ≡ Skip → ⊥) → w.strayed ≡ true → Strayed all_lines done old report (w.good + 1) → ObeysOn old new line c w w'
+      → Stands all_lines (done ++ text ∷ []) new report w'
   obey_on w w' c spells asks strayed stands s =
       let S : Bool → Type 0 = λ v. StandsBy v all_lines (done ++ text ∷ []) new report w.good w.left.now in
       subst (Stands all_lines (done ++ text ∷ []) new report) (sym s.same)
@@ -71,7 +74,8 @@ module _ (done : List (List ℕ)) (text : List ℕ) (after : List (List ℕ)) (o
   by_walk false w w' c spells asks is stands s = step_on w w' c spells asks stands s
   by_walk true w w' c spells asks is stands s = obey_on w w' c spells asks is stands s
 
-  asking : (w w' : Walk) (c : Command) → Spells text c → (c ≡ Skip → ⊥) → Stands all_lines done old report w → TakesBy w.strayed old new line c w w' → Stands all_lines (done ++ text ∷ []) new report w'
+  asking : (w w' : Walk) (c : Command) → Spells text c → (c ≡ Skip → ⊥) → Stands all_lines done old report w → TakesBy w.strayed old new line c w w'
+      → Stands all_lines (done ++ text ∷ []) new report w'
   asking w w' c spells asks stands s = by_walk w.strayed w w' c spells asks refl stands s
 
 -- A line that asks for nothing.
@@ -93,7 +97,8 @@ stands_first lines report w going none all =
     subst (λ v. S v w.good w.left.now) (sym going) (subst (λ k. S false k w.left.now) (sym none) (subst (S false 0) (sym all) (walk_begins report)))
 
 -- ... and what a line that isn't audited tells.
-refuses_by : (v : Bool) (lines done : List (List ℕ)) (text : List ℕ) (after : List (List ℕ)) (bench : Benched) (report : List ℕ) (good : ℕ) (left : List ℕ) → StandsBy v lines done bench report good left
+refuses_by : (v : Bool) (lines done : List (List ℕ)) (text : List ℕ) (after : List (List ℕ)) (bench : Benched) (report : List ℕ) (good : ℕ) (left : List ℕ)
+    → StandsBy v lines done bench report good left
     → (IsAudited bench.state text → ⊥) → IsUnauditedAt (done ++ text ∷ after) (length done + 1)
 refuses_by false lines done text after bench report good left w none = walk_refuses done text after bench report good left w none
 refuses_by true lines done text after bench report good left s none = stray_refuses lines done text after bench report (good + 1) s none
@@ -140,7 +145,8 @@ ends_legal lines bench report w stands going over =
     walk_ends lines bench report w.good (subst (S false) over (subst (λ v. S v w.left.now) going stands))
 
 -- All its lines are audited.
-audited_by : (v : Bool) (lines : List (List ℕ)) (bench : Benched) (report : List ℕ) (good : ℕ) (left : List ℕ) → StandsBy v lines lines bench report good left → (commands : List Command) × AreAudited lines commands
+audited_by : (v : Bool) (lines : List (List ℕ)) (bench : Benched) (report : List ℕ) (good : ℕ) (left : List ℕ) → StandsBy v lines lines bench report good left
+    → (commands : List Command) × AreAudited lines commands
 audited_by false lines bench report good left w = (w.commands, w.audited)
 audited_by true lines bench report good left s = (s.commands, s.audited)
 

@@ -1,5 +1,6 @@
 -- Why no good text goes on as a report does: behind the good events of an entry, at its answer, and behind the last line of the script.
-use Rattle.std.proofs.Common.{◌≡◌, ℕ, suc, ◌+◌, ◌<◌, ◌^◌, List, [], ◌∷◌, ◌++◌, append_assoc, append-nil, drop, drop-cons, get_or, length, take, take-append-drop, take-suc, sym, ◌∙◌, ap, subst, arith, false}
+use Rattle.std.proofs.Common.{◌≡◌, ℕ, suc, ◌+◌, ◌<◌, ◌^◌, List, [], ◌∷◌, ◌++◌, append_assoc, append-nil, drop, drop-cons, get_or, length, take, take-append-drop, take-suc, sym, ◌∙◌, ap, subst, arith}
+use Rattle.std.proofs.Common.{false}
 use Rattle.std.specs.List.{AllByRecursion}
 use Rattle.std.proofs.lemmas.Grind.{flat_map-append}
 use Rattle.nfc_base.proofs.Leading.{all_append}
@@ -108,7 +109,8 @@ module _ (done : List (List ℕ)) (line : List ℕ) (after : List (List ℕ)) (b
       none_more more t agrees (λ same text. none t.mid t.after t.given t.entry t.alike t.step t.asked same)
 
   -- An entry of all these events, whose answer's line isn't the next.
-  pub none_answers : (new : Benched) (follows : FollowsAll bench new n c events) → IsBetweenCommands bench.state → ((rest : List ℕ) → behind ≡ line_text n (answer_text follows.entry.answer) ++ rest → ⊥)
+  pub none_answers : (new : Benched) (follows : FollowsAll bench new n c events) → IsBetweenCommands bench.state
+      → ((rest : List ℕ) → behind ≡ line_text n (answer_text follows.entry.answer) ++ rest → ⊥)
       → NoneGoesOn all_lines (so_far bench.journal n events) behind
   none_answers new follows between differs text more is_good is agrees =
       let e : Entry = follows.entry in

@@ -46,7 +46,8 @@ one_fault = λ lines report n m p q.
     ]
 
 -- a line among audited ones is audited behind those before it
-audited_at : (s : State) (before : List (List ℕ)) (line : List ℕ) (after : List (List ℕ)) (cs ds : List Command) → AreSpelled (before ++ line ∷ after) cs → AreAccepted s cs → AllShow s cs → AreSpelled before ds
+audited_at : (s : State) (before : List (List ℕ)) (line : List ℕ) (after : List (List ℕ)) (cs ds : List Command) → AreSpelled (before ++ line ∷ after) cs → AreAccepted s cs → AllShow s cs
+    → AreSpelled before ds
     → IsAudited (standing_from s ds) line
 audited_at s [] line after [] ds p q shows r = absurd p
 audited_at s [] line after (c ∷ cs) [] p q shows r = (c, p.0, (q.0, shows.0))

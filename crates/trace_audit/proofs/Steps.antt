@@ -26,7 +26,8 @@ pub takes_one : (old new : Benched) (line : ℕ) (c : Command) (w w' : Walk) →
 takes_one old new line Skip w w' other h = absurd (other refl)
 takes_one old new line c w w' other h = h
 
-pub takes_if : (old new : Benched) (line : ℕ) (c : Command) (w : Walk) (r : Result Walk ObeyFault) → (c ≡ Skip → ⊥) → w.strayed ≡ false → IfOk r (λ w'. StepsOn old new line c w w') → IfOk r (λ w'. TakesLine old new line c w w')
+pub takes_if : (old new : Benched) (line : ℕ) (c : Command) (w : Walk) (r : Result Walk ObeyFault) → (c ≡ Skip → ⊥) → w.strayed ≡ false → IfOk r (λ w'. StepsOn old new line c w w')
+    → IfOk r (λ w'. TakesLine old new line c w w')
 takes_if old new line c w (Ok w') other on h = takes_one old new line c w w' other (subst (λ v. TakesBy v old new line c w w') (sym on) h)
 takes_if old new line c w (Err e) other on h = h
 

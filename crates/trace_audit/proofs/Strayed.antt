@@ -1,6 +1,7 @@
 -- Where an audit stands behind the first fault of a report: some journal of the lines that are done has a text that begins with the
 -- report's good lines, and no good text goes on as the report does. Each line that is audited takes it on.
-use Rattle.std.proofs.Common.{◌≡◌, ℕ, ◌+◌, ◌<◌, ◌≤◌, ◌^◌, List, [], ◌∷◌, ◌++◌, append_assoc, append-nil, ◌⊎◌, inl, inr, drop, length, take, take_all, take-append-drop, false, refl, sym, ◌∙◌, ap, subst, arith}
+use Rattle.std.proofs.Common.{◌≡◌, ℕ, ◌+◌, ◌<◌, ◌≤◌, ◌^◌, List, [], ◌∷◌, ◌++◌, append_assoc, append-nil, ◌⊎◌, inl, inr, drop, length, take, take_all, take-append-drop, false, refl, sym, ◌∙◌, ap}
+use Rattle.std.proofs.Common.{subst, arith}
 use Rattle.std.specs.List.{AllByRecursion}
 use Rattle.std.proofs.lemmas.Bool.{cases_lt}
 use Rattle.std.proofs.lemmas.List.{drop_all, length-append, length-map, length-take-le}
@@ -59,7 +60,8 @@ module _ (done : List (List ℕ)) (line : List ℕ) (after : List (List ℕ)) (b
     on_air = all_append (λ (e : Entry). AreOnAir e.events) bench.journal (e ∷ []) w.on_air (air, tt);
     commands = w.commands ++ c ∷ [];
     audited =
-        audited_more done (numbers_of w.given) bench.journal bench.state w.commands (walked_leads done bench report at left w) w.audited line c spelled (subst (Accepts bench.state) asked step.front.accepted) shows;
+        audited_more done (numbers_of w.given) bench.journal bench.state w.commands (walked_leads done bench report at left w) w.audited line c spelled
+        (subst (Accepts bench.state) asked step.front.accepted) shows;
     good = length ls;
     next = next;
     begins = (rest, text_more bench.journal e ∙ text ∙ ap (λ x. x ++ rest) (sym (ap (first_lines (length ls)) is ∙ first_joined ls behind clean)));
@@ -71,7 +73,8 @@ count_so_far : (js : List Entry) (n : ℕ) (es : List Event) → length (so_far 
 count_so_far js n es = length-append (report_lines js) (event_lines n es) ∙ ap (λ k. length (report_lines js) + k) (length-map es _)
 
 -- the report, by the lines so far
-report_so_far : (js : List Entry) (n : ℕ) (es : List Event) (report left behind : List ℕ) → report ≡ report_text false js ++ left → left ≡ events_text n es ++ behind → report ≡ joined (so_far js n es) ++ behind
+report_so_far : (js : List Entry) (n : ℕ) (es : List Event) (report left behind : List ℕ) → report ≡ report_text false js ++ left → left ≡ events_text n es ++ behind
+    → report ≡ joined (so_far js n es) ++ behind
 report_so_far js n es report left behind is parts =
     is ∙ ap (λ x. report_text false js ++ x) parts ∙ sym (append_assoc (report_text false js) (events_text n es) behind) ∙ ap (λ x. x ++ behind) (sym (so_far_joined js n es))
 
@@ -130,9 +133,11 @@ module _ (done : List (List ℕ)) (line : List ℕ) (after : List (List ℕ)) (b
       let count : at + length events ≡ length ls = omega (arith, w.count, count_so_far bench.journal n events) in
       stray_by done line after bench new report at left n c number w spelled other follows.entry follows.given
       (subst (LegalStep bench.state follows.given follows.entry) (ap (λ (b : Benched). b.state) (sym follows.is)) follows.legal) follows.numbered follows.asked follows.shows
-      (subst AreOnAir (sym follows.happened) reads.on_air) (ap (λ (b : Benched). b.spoiled) follows.is ∙ w.sound) ls behind (line_text n (answer_text follows.entry.answer)) (so_far_clean bench.journal n events) is
+      (subst AreOnAir (sym follows.happened) reads.on_air) (ap (λ (b : Benched). b.spoiled) follows.is ∙ w.sound) ls behind (line_text n (answer_text follows.entry.answer))
+      (so_far_clean bench.journal n events) is
       (entry_so_far bench.journal n events [] follows.entry follows.numbered (follows.happened ∙ sym (append-nil events)))
-      (stops_at all_lines report ls behind (so_far_clean bench.journal n events) is (none_answers done line after bench report at left n c events behind number w few spelled other reads new follows between differs))
+      (stops_at all_lines report ls behind (so_far_clean bench.journal n events) is (none_answers done line after bench report at left n c events behind number w few spelled other reads new follows
+      between differs))
       (at + length events + 1) (omega (arith, count))
 
 -- A line behind the fault, which is obeyed.

@@ -29,7 +29,8 @@ use Rattle.bench_devices.specs.Opening.{linking, peer_next, then_opens}
 use Rattle.bench_devices.specs.Polling as polls
 use Rattle.bench_devices.specs.Polling.{Followed, Told, asks, selecting}
 use Rattle.bench_world.specs.Calls.{due_asked, due_if}
-use Rattle.bench_world.specs.Forging.{Activates, Exchanges, Forging, Strays, Unlinked, bad_again, forge_due, forge_noted, forge_stand, forged_general, forging, heard_atr, linked_by, peer_forges, then_forges}
+use Rattle.bench_world.specs.Forging.{Activates, Exchanges, Forging, Strays, Unlinked, bad_again, forge_due, forge_noted, forge_stand, forged_general, forging, heard_atr, linked_by, peer_forges}
+use Rattle.bench_world.specs.Forging.{then_forges}
 use Rattle.bench_world.specs.Links.{OpenLink}
 use Rattle.trace_audit.proofs.TechPolling.{AsksOf, select_tech}
 use Rattle.trace_audit.proofs.TechTurns.{IsOf}

@@ -46,7 +46,8 @@ numbers_of gs = map (λ (g : Given). g.joins) gs
 pub leads_to : (done : List (List ℕ)) (gs : List Given) (js : List Entry) (t : State) → AreEntriesOf (asking_lines 1 done) js → EachLegal first_state gs js t → LeadsTo done (numbers_of gs) js t
 leads_to done gs js t of steps = record { given = gs; joins = refl; numbered = of; steps = steps }
 
-pub walked_leads : (done : List (List ℕ)) (bench : Benched) (report : List ℕ) (at : ℕ) (left : List ℕ) (w : Walked done bench report at left) → LeadsTo done (numbers_of w.given) bench.journal bench.state
+pub walked_leads : (done : List (List ℕ)) (bench : Benched) (report : List ℕ) (at : ℕ) (left : List ℕ) (w : Walked done bench report at left)
+    → LeadsTo done (numbers_of w.given) bench.journal bench.state
 walked_leads done bench report at left w = leads_to done w.given bench.journal bench.state w.numbered (shown_legal first_state bench.state w.given bench.journal w.steps)
 
 -- before the first line
@@ -97,7 +98,8 @@ pub record TheirEntry (n : ℕ) (c : Command) (s : State) (text : List ℕ) : Ty
   pub more : List ℕ
   pub is : text ≡ events_text n entry.events ++ (line_text n (answer_text entry.answer) ++ more)
 
-entry_of : (n : ℕ) (c : Command) (line : List ℕ) (ls : List NumberedLine) (s t u : State) (js ks : List Entry) (zs : List ℕ) → Spells line c → Rest (record { number = n; text = line } ∷ ls) s u js ks zs
+entry_of : (n : ℕ) (c : Command) (line : List ℕ) (ls : List NumberedLine) (s t u : State) (js ks : List Entry) (zs : List ℕ) → Spells line c
+    → Rest (record { number = n; text = line } ∷ ls) s u js ks zs
     → TheirEntry n c s zs
 entry_of n c line ls s t u js ks zs spelled r = first_of r.given r.entries r.numbered r.steps r.on_air r.tech r.text
   where
@@ -173,7 +175,8 @@ module _ (done : List (List ℕ)) (line : List ℕ) (bench new : Benched) (repor
     given = w.given ++ follows.given ∷ [];
     numbered = numbered_more done line bench.journal follows.entry w.numbered (asks_something line c spelled other) (follows.numbered ∙ number) (subst (Spells line) (sym follows.asked) spelled);
     steps =
-        shown_more first_state bench.state follows.state w.given bench.journal follows.given follows.entry w.steps between (subst (MayShow bench.state) (sym follows.asked) follows.shows) follows.legal;
+        shown_more first_state bench.state follows.state w.given bench.journal follows.given follows.entry w.steps between (subst (MayShow bench.state) (sym follows.asked) follows.shows)
+        follows.legal;
     on_air = all_append (λ (e : Entry). AreOnAir e.events) bench.journal (follows.entry ∷ []) w.on_air (subst AreOnAir (sym follows.happened) reads.on_air, tt);
     commands = w.commands ++ c ∷ [];
     audited =

@@ -1,5 +1,5 @@
--- What an audit says of a report: that it is one that a script may have, or else which is its first line that no run can have; and
--- which scripts it audits. (Scripts and reports are this project's own.)
+-- What an audit says of a report: that it is one that a script may have, or else which is its first line that no run
+-- can have; and which scripts it audits. (Scripts and reports are this project's own.)
 use Rattle.std.specs.Prelude.{◌≡◌, ℕ, ◌+◌, ◌≤◌, List, [], ◌∷◌, ◌++◌, length, take, false}
 use Rattle.std.specs.List.{AllByRecursion}
 use Rattle.nfc_io.specs.Lines.{joined, whole_lines}
@@ -37,9 +37,9 @@ pub record BeginsGood (lines : List (List ℕ)) (front : List ℕ) : Type 0 wher
   pub good : IsGoodText lines text
   pub begins : IsPrefix front text
 
--- Line n, counted from 1, is the first of the report that no run can have: a good text begins with those before it, and none with
--- these and line n. A last line without LF is none that a good text has; and where the report ends too early, or is empty, line n
--- is the one that isn't there.
+-- Line n, counted from 1, is the first of the report that no run can have: a good text begins with those before it, and
+-- none with these and line n. A last line without LF is none that a good text has; and where the report ends too early,
+-- or is empty, line n is the one that isn't there.
 pub record IsFaultyAt (lines : List (List ℕ)) (report : List ℕ) (n : ℕ) : Type 0 where
   pub good : ℕ
   pub next : n ≡ good + 1
@@ -56,8 +56,8 @@ pub record IsReportOf (lines : List (List ℕ)) (report : List ℕ) (bench : Ben
   pub on_air : IsOnAir bench.journal
   pub is : report ≡ report_text false bench.journal
 
--- A line is audited in a state: it spells a command that may be followed there, so it is accepted and isn't a `raw` while a peer is
--- placed.
+-- A line is audited in a state: it spells a command that may be followed there, so it is accepted and isn't a `raw`
+-- while a peer is placed.
 abbrev pub IsAudited : State → List ℕ → Type 0
 IsAudited s line = (c : Command) × Spells line c × MayFollow s c
 
@@ -71,7 +71,8 @@ pub record AreAudited (lines : List (List ℕ)) (commands : List Command) : Type
   pub taken : AreTaken lines commands
   pub shown : AllShow first_state commands
 
--- Line n, counted from 1, is the first of the lines that isn't audited. So it is of the lines alone, whatever the report is.
+-- Line n, counted from 1, is the first of the lines that isn't audited. So it is of the lines alone, whatever the
+-- report is.
 pub record IsUnauditedAt (lines : List (List ℕ)) (n : ℕ) : Type 0 where
   pub before : List (List ℕ)
   pub line : List ℕ
@@ -82,9 +83,11 @@ pub record IsUnauditedAt (lines : List (List ℕ)) (n : ℕ) : Type 0 where
   pub audited : AreAudited before commands
   pub refused : IsAudited (standing_of commands) line → ⊥
 
--- What an audit says is settled by the lines and the report: at most one line of a report is the first that no run can have, ...
+-- What an audit says is settled by the lines and the report: at most one line of a report is the first that no run can
+-- have, ...
 abbrev pub OneFault : Type 0
-OneFault = (lines : List (List ℕ)) (report : List ℕ) (n m : ℕ) → IsFaultyAt lines report n → IsFaultyAt lines report m → n ≡ m
+OneFault = (lines : List (List ℕ)) (report : List ℕ) (n m : ℕ) → IsFaultyAt lines report n → IsFaultyAt lines report m
+    → n ≡ m
 
 -- ... at most one line of a script is the first that isn't audited, ...
 abbrev pub OneUnaudited : Type 0
@@ -92,4 +95,5 @@ OneUnaudited = (lines : List (List ℕ)) (n m : ℕ) → IsUnauditedAt lines n �
 
 -- ... and none where all are.
 abbrev pub NoneUnaudited : Type 0
-NoneUnaudited = (lines : List (List ℕ)) (commands : List Command) (n : ℕ) → AreAudited lines commands → IsUnauditedAt lines n → ⊥
+NoneUnaudited = (lines : List (List ℕ)) (commands : List Command) (n : ℕ) → AreAudited lines commands
+    → IsUnauditedAt lines n → ⊥

@@ -27,10 +27,11 @@ pub record IsInFront (line : ℕ) (c : Command) (last : Tech) (text : List ℕ) 
   pub on_air : AreOnAir (e ∷ [])
   pub is : text ≡ line_text line (event_text e) ++ more
 
--- The report begins with the lines of these events of a command, and this is left; it begins with the line of no event that
--- could come next.
+-- The report begins with the lines of these events of a command, and this is left; it begins with the line of no event
+-- that could come next.
 pub record AreRead (line : ℕ) (c : Command) (report : List ℕ) (events : List Event) (left : List ℕ) : Type 0 where
   pub split : report ≡ events_text line events ++ left
   pub tech : HaveTech c A events
   pub on_air : AreOnAir events
-  pub ended : (e : Event) (more : List ℕ) → HaveTech c A (events ++ e ∷ []) → AreOnAir (e ∷ []) → left ≡ line_text line (event_text e) ++ more → ⊥
+  pub ended : (e : Event) (more : List ℕ) → HaveTech c A (events ++ e ∷ []) → AreOnAir (e ∷ [])
+      → left ≡ line_text line (event_text e) ++ more → ⊥

@@ -27,8 +27,8 @@ sent_tech (Write id message) bytes tail = tech_for id
 sent_tech (Raw id frames) bytes tail = tech_for id
 sent_tech c bytes tail = A
 
--- The events have the technologies of their command: an answer and a clash that of the request before them, which is the last
--- one where none of these events comes before.
+-- The events have the technologies of their command: an answer and a clash that of the request before them, which is
+-- the last one where none of these events comes before.
 abbrev pub HaveTech : Command → Tech → List Event → Type 0
 HaveTech c last [] = Unit {0}
 HaveTech c last (Reset ∷ es) = HaveTech c last es

@@ -1,5 +1,5 @@
--- Which technology the events of a legal entry have: that of the command, by which a line of a report can be read back. (That a line
--- doesn't tell it is this project's own.)
+-- Which technology the events of a legal entry have: that of the command, by which a line of a report can be read back.
+-- (That a line doesn't tell it is this project's own.)
 use Rattle.std.specs.Prelude.{◌≡◌, ℕ, List}
 use Rattle.std.specs.List.{AllByRecursion}
 use Rattle.nfc_base.specs.declared.frame.Tech.TheVariants.{A}
@@ -28,10 +28,11 @@ NamesWell s (Read id) = IfPlaced (IsReadAs id) (Unit {0}) (device_with (bytes_of
 NamesWell s (Write id message) = IfPlaced (IsReadAs id) (Unit {0}) (device_with (bytes_of id) s.world.field.listeners)
 NamesWell s c = Unit {0}
 
--- The events of a legal step have the technologies of its command. Before the first request nothing is answered, so what
--- stands for the one before it doesn't count.
+-- The events of a legal step have the technologies of its command. Before the first request nothing is answered, so
+-- what stands for the one before it doesn't count.
 abbrev pub LegalTech : Type 0
-LegalTech = (s t : State) (g : Given) (e : Entry) → NamesWell s e.command → LegalStep s g e t → HaveTech e.command A e.events
+LegalTech = (s t : State) (g : Given) (e : Entry) → NamesWell s e.command → LegalStep s g e t
+    → HaveTech e.command A e.events
 
 -- A command that a line spells names well: where a bench stands between two commands, ...
 abbrev pub NamesBetween : Type 0

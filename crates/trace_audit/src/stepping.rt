@@ -1,6 +1,7 @@
 //! One step of the walk over a script and its report: what a line of the script does with the report's next lines.
 
-ghost use Rattle.std.specs.Prelude.{◌≡◌, ◌≢◌, ◌+◌, ◌≤◌, ◌<◌, ◌^◌, ◌++◌, List, ℕ, IfOk, OnOk, IsErrOf, MatchOption, length};
+ghost use Rattle.std.specs.Prelude.{◌≡◌, ◌≢◌, ◌+◌, ◌≤◌, ◌<◌, ◌^◌, ◌++◌, List, ℕ, IfOk, OnOk, IsErrOf, MatchOption};
+ghost use Rattle.std.specs.Prelude.{length};
 ghost use Rattle.bench_world.specs.Following.{MayFollow};
 ghost use Rattle.bench_world.specs.Obeying.{Obeys};
 ghost use Rattle.bench_world.specs.Report.{answer_text, line_text};

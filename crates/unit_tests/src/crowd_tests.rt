@@ -1,4 +1,5 @@
-//! A search for Type 5 tags among tags that share their lowest bits, by the frames that it sends and the tags that it finds.
+//! A search for Type 5 tags among tags that share their lowest bits, by the frames that it sends and the tags that it
+//! finds.
 
 use air_core::{Field, Listener};
 use nfc_base::{Answerer, Event, Fate, Frame, Tech};
@@ -126,7 +127,8 @@ fn is_found(alloc: Global, field: &mut Field<Vial>, wanted: &[[u8; 8]]) -> Resul
     Ok(found.as_slice() == wanted)
 }
 
-/// How often in a row a request is sent, the request, and the answer or clash with its tail; none where it has no bytes.
+/// How often in a row a request is sent, the request, and the answer or clash with its tail; none where it has no
+/// bytes.
 type Row<'a> = (usize, &'a [u8], &'a [u8], u8);
 
 fn is_frame(frame: &Frame, bytes: &[u8], tail: u8) -> bool {

@@ -1,4 +1,5 @@
-//! The tests of crates that stand low: the air, frames and PDUs, how devices are found, lines of scripts, ends of bytes.
+//! The tests of crates that stand low: the air, frames and PDUs, how devices are found, lines of scripts, ends of
+//! bytes.
 //!
 //! Each speaks of one crate, by its public calls. They stand here since a crate with tests is proved a second time with
 //! them; of this crate nothing else is to be proved.

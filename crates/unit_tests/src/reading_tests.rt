@@ -209,8 +209,8 @@ fn the_last_line_stays_behind_the_end_and_a_fault(rt: HostRuntime) -> Result<(),
     Ok(())
 }
 
-/// What a reader hands over behind so many lines, at most so many bytes of it: whether that is all, and the bytes, or one
-/// more than so many.
+/// What a reader hands over behind so many lines, at most so many bytes of it: whether that is all, and the bytes, or
+/// one more than so many.
 fn rest_behind(
     alloc: Global,
     (text, size, failing): (&[u8], usize, usize),

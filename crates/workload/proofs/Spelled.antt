@@ -18,7 +18,8 @@ use Rattle.bench_script.specs.declared.message.Msg.TheVariants.{Gen}
 use Rattle.bench_script.specs.Canonical.{message_text}
 use Rattle.bench_script.specs.Limits.{AreWithinLimits, longest_line}
 use Rattle.bench_script.specs.Script.{words_of, fate_letter, SpellsIdent, SpellsCounted, Spells}
-use Rattle.workload.specs.Workload.{IsCount, SpellEach, tag_line, peer_line, fates_line, write_line, read_line, link_line, put_line, tag_id, peer_id, tag_head, round_fates, round_lines, round_commands, written_size, put_size, first_byte, workload_lines, workload_commands}
+use Rattle.workload.specs.Workload.{IsCount, SpellEach, tag_line, peer_line, fates_line, write_line, read_line, link_line, put_line, tag_id, peer_id, tag_head, round_fates, round_lines}
+use Rattle.workload.specs.Workload.{round_commands, written_size, put_size, first_byte, workload_lines, workload_commands}
 use Rattle.workload.proofs.Places.{lines_size}
 
 -- the identifiers are some
@@ -45,8 +46,19 @@ tag_spelled =
 
 peer_spelled : Spells peer_line (PlacePeer peer_id 3 128 1 1024)
 unfolding digits
-peer_spelled =
-    (codes "08010203", codes "3", codes "128", codes "1", codes "1024", refl, peer_named, (refl, omega arith, omega arith), (refl, omega arith, omega arith), (refl, omega arith, omega arith), (refl, omega arith, omega arith))
+peer_spelled = (
+  codes "08010203",
+  codes "3",
+  codes "128",
+  codes "1",
+  codes "1024",
+  refl,
+  peer_named,
+  (refl, omega arith, omega arith),
+  (refl, omega arith, omega arith),
+  (refl, omega arith, omega arith),
+  (refl, omega arith, omega arith),
+)
 
 fates_spelled : Spells fates_line (Fates round_fates)
 fates_spelled = (map fate_letter round_fates, refl, record { letters = refl; some = omega arith; few = omega arith })

@@ -1,11 +1,12 @@
--- A workload: a script made from a seed and a count. It places a Type 2 tag and a peer; then, in each of its rounds, frames are
--- lost, a message is written to the tag and read, and another is put to the peer. (This project's own.)
+-- A workload: a script made from a seed and a count. It places a Type 2 tag and a peer; then, in each of its rounds,
+-- frames are lost, a message is written to the tag and read, and another is put to the peer. (This project's own.)
 use Rattle.std.specs.Prelude.{◌≡◌, ℕ, ◌+◌, ◌*◌, ◌%◌, ◌<◌, ◌≤◌, ◌++◌, List, [], ◌∷◌, codes, length, slice_index_or}
 use Rattle.std.specs.List.{range_with_len, flat_map, repeat}
 use Rattle.nfc_base.specs.declared.event.Fate.{Fate}
 use Rattle.nfc_base.specs.declared.event.Fate.TheVariants.{Pass, Lose}
 use Rattle.bench_script.specs.declared.command.Command.{Command}
-use Rattle.bench_script.specs.declared.command.Command.TheVariants.{Skip, Fates, PlaceT2, PlacePeer, Read, Write, Link, Put}
+use Rattle.bench_script.specs.declared.command.Command.TheVariants.{Skip, Fates, PlaceT2, PlacePeer, Read, Write, Link}
+use Rattle.bench_script.specs.declared.command.Command.TheVariants.{Put}
 use Rattle.bench_script.specs.declared.command.DeviceId.TheVariants.{A}
 use Rattle.bench_script.specs.declared.message.Msg.TheVariants.{Gen}
 use Rattle.bench_script.specs.Canonical.{message_text}
@@ -80,8 +81,8 @@ tag_id = 0x04 ∷ 0x11 ∷ 0x22 ∷ 0x33 ∷ 0x44 ∷ 0x55 ∷ 0x66 ∷ []
 abbrev pub peer_id : List ℕ
 peer_id = 0x08 ∷ 0x01 ∷ 0x02 ∷ 0x03 ∷ []
 
--- what the tag's memory begins with: 12 bytes, the capability container, an empty NDEF Message TLV and a Terminator TLV (NFC
--- Forum Type 2 Tag)
+-- what the tag's memory begins with: 12 bytes, the capability container, an empty NDEF Message TLV and a Terminator TLV
+-- (NFC Forum Type 2 Tag)
 abbrev pub tag_head : List ℕ
 tag_head = repeat 12 (0 ∷ []) ++ 0xE1 ∷ 0x10 ∷ 0x6D ∷ 0x00 ∷ 0x03 ∷ 0x00 ∷ 0xFE ∷ []
 
@@ -91,15 +92,18 @@ round_fates = repeat 20 (repeat 28 (Pass ∷ []) ++ Lose ∷ [])
 -- what the lines of round i ask for
 abbrev pub round_commands : ℕ → ℕ → List Command
 round_commands seed i =
-    Fates round_fates ∷ Write (A tag_id) (Gen (written_size seed i) (first_byte i)) ∷ Read (A tag_id) ∷ Link peer_id 128 1
+    Fates round_fates ∷ Write (A tag_id) (Gen (written_size seed i) (first_byte i)) ∷ Read (A tag_id)
+    ∷ Link peer_id 128 1
     ∷ Put (Gen (put_size seed i) (first_byte i)) ∷ []
 
 -- what the lines of a workload ask for
 abbrev pub workload_commands : ℕ → ℕ → List Command
 workload_commands seed count =
-    PlaceT2 tag_id 231 tag_head ∷ PlacePeer peer_id 3 128 1 1024 ∷ flat_map (round_commands seed) (range_with_len 0 count)
+    PlaceT2 tag_id 231 tag_head ∷ PlacePeer peer_id 3 128 1 1024
+    ∷ flat_map (round_commands seed) (range_with_len 0 count)
 
 -- Each line spells the command at its place, and there are as many of these as of those.
 pub record SpellEach (lines : List (List ℕ)) (commands : List Command) : Type 0 where
   pub size : length commands ≡ length lines
-  pub at : (place : ℕ) → place < length lines → Spells (slice_index_or lines place []) (slice_index_or commands place Skip)
+  pub at : (place : ℕ) → place < length lines → Spells (slice_index_or lines place [])
+      (slice_index_or commands place Skip)

@@ -49,8 +49,8 @@ ends_early = negsuc 4
 abbrev pub tag_fault : ℕ → ℤ
 tag_fault number = negsuc (99 + number)
 
--- How a link ended, by its cause's number: of ISO-DEP minus 300 and that number less, of NFC-DEP minus 400 and that. Six
--- bad receptions in one wait; and a frame that is no allowed answer.
+-- How a link ended, by its cause's number: of ISO-DEP minus 300 and that number less, of NFC-DEP minus 400 and that.
+-- Six bad receptions in one wait; and a frame that is no allowed answer.
 abbrev pub six_bad : ℤ
 six_bad = negsuc 301
 

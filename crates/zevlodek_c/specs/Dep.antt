@@ -1,5 +1,5 @@
--- Both ends of NFC-DEP by what came on a link, as C asks for them, and the frames by which a link begins (NFCIP-1, ISO/IEC
--- 18092; NFC Forum Digital Protocol; how C keeps what came, and the numbers of faults, are this project's own).
+-- Both ends of NFC-DEP by what came on a link, as C asks for them, and the frames by which a link begins (NFCIP-1,
+-- ISO/IEC 18092; NFC Forum Digital Protocol; how C keeps what came, and the numbers of faults, are this project's own).
 use Rattle.std.specs.Prelude.{◌≡◌, ◌≤◌, ◌<◌, ℕ, ◌==◌, ◌&&◌, nat_le, if◌then◌else◌, List, length, Option, Some, None}
 use Rattle.nfc_base.specs.Signal.{whole_a}
 use Rattle.nfc_base.specs.declared.event.Heard.{Heard}
@@ -14,7 +14,8 @@ use Rattle.dep_link.specs.Frames.{air_frame}
 use Rattle.dep_link.specs.Initiator.{InitState, InitTurn, begun, init_table, request, waiting}
 use Rattle.dep_link.specs.Target.{TargetState, TargetTurn, fresh, replied, reply_frame, target_table}
 use Rattle.zevlodek_c.specs.declared.showing.Told.{Told}
-use Rattle.zevlodek_c.specs.Codes.{done, send, silent, asleep, opened, released, bad_argument, dep_six_bad, dep_no_answer}
+use Rattle.zevlodek_c.specs.Codes.{done, send, silent, asleep, opened, released, bad_argument, dep_six_bad}
+use Rattle.zevlodek_c.specs.Codes.{dep_no_answer}
 use Rattle.zevlodek_c.specs.Entries.{Entry, EndTells, a_frame, a_reply, begins_with, heard_of, most_frame}
 use Rattle.zevlodek_c.specs.Showing.{Seen, shows, answers}
 
@@ -102,7 +103,8 @@ pub record IsTargetAsked (lr : ℕ) (general : List ℕ) : Type 0 where
 
 -- what C sees of a target with this NFCID3, LR code and general bytes
 pub record TargetTells (id : List ℕ) (lr : ℕ) (general log out : List ℕ) (told : Told) (seen : Seen) : Type 0 where
-  pub taken : IsTargetAsked lr general → EndTells target_takes (target_begins id lr general) target_shown log out told seen
+  pub taken : IsTargetAsked lr general → EndTells target_takes (target_begins id lr general) target_shown log out told
+      seen
   pub refused : (IsTargetAsked lr general → ⊥) → seen ≡ answers bad_argument out told
 
 -- ATR_REQ of an initiator that takes frames of 254 bytes

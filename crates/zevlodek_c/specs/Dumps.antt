@@ -1,5 +1,6 @@
 -- What C is told of a tag's memory that was read out (this project's own; what a memory holds is tlv_area's).
-use Rattle.std.specs.Prelude.{◌≡◌, ℕ, ℤ, ◌<◌, ◌≤◌, ◌⊎◌, List, length, take, Bool, true, false, nat_lt, if◌then◌else◌, Result, Ok, Err}
+use Rattle.std.specs.Prelude.{◌≡◌, ℕ, ℤ, ◌<◌, ◌≤◌, ◌⊎◌, List, length, take, Bool, true, false, nat_lt, if◌then◌else◌}
+use Rattle.std.specs.Prelude.{Result, Ok, Err}
 use Rattle.tlv_area.specs.declared.space.Space.{Space}
 use Rattle.tlv_area.specs.declared.space.AreaMap.{AreaMap}
 use Rattle.tlv_area.specs.declared.container.FileMap.{FileMap}
@@ -113,4 +114,5 @@ file_seen file (Err fault) = record { answer = tag_fault (container_fault_number
 -- the file that the first bytes of a capability container file name; where they name none the numbers stay
 abbrev pub file_told : List ℕ → T4File → FileSeen
 file_told bytes file =
-    if nat_lt (length bytes) 15 then record { answer = ends_early; file = file } else file_seen file (t4_container (take 15 bytes))
+    if nat_lt (length bytes) 15 then record { answer = ends_early; file = file }
+    else file_seen file (t4_container (take 15 bytes))

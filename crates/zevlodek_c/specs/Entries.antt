@@ -1,6 +1,7 @@
--- What stands in the log of an end of a link, one entry behind the other, and an end behind all of them (how C keeps them
--- is this project's own).
-use Rattle.std.specs.Prelude.{◌≡◌, ◌<◌, ℕ, ◌==◌, nat_le, not, if◌then◌else◌, List, [], ◌∷◌, ◌++◌, length, Option, Some, None}
+-- What stands in the log of an end of a link, one entry behind the other, and an end behind all of them (how C keeps
+-- them is this project's own).
+use Rattle.std.specs.Prelude.{◌≡◌, ◌<◌, ℕ, ◌==◌, nat_le, not, if◌then◌else◌, List, [], ◌∷◌, ◌++◌, length, Option, Some}
+use Rattle.std.specs.Prelude.{None}
 use Rattle.nfc_base.specs.Signal.{whole_a}
 use Rattle.nfc_base.specs.declared.event.Heard.{Heard}
 use Rattle.nfc_base.specs.declared.event.Heard.TheVariants as hears
@@ -76,6 +77,7 @@ pub record EndTells {N : Type 0} (takes : N → Entry → Option N) (begins : N)
   pub no_log : (IsEntryLog log → ⊥) → seen ≡ answers bad_log out told
 
 -- the end itself behind the log, if it takes all of it
-pub record Replays {N : Type 0} (takes : N → Entry → Option N) (begins : N) (log : List ℕ) (result : Option N) : Type 0 where
+pub record Replays {N : Type 0} (takes : N → Entry → Option N) (begins : N) (log : List ℕ) (result : Option N)
+    : Type 0 where
   pub same : (es : List Entry) → SpellsEntries es log → result ≡ takes_all takes (Some begins) es
   pub none : (IsEntryLog log → ⊥) → result ≡ None

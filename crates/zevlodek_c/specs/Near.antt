@@ -1,7 +1,8 @@
--- The near end of a link of LLCP, a client of the other end's SNEP server, as C asks for it: by its sizes, the other end's
--- general bytes, and its calls with the replies that came (NFC Forum LLCP 1.3 and SNEP 1.0; how C keeps them, and the
--- numbers of faults, are this project's own).
-use Rattle.std.specs.Prelude.{◌≡◌, ◌⊎◌, ◌+◌, ℕ, ℤ, negsuc, ◌==◌, ◌&&◌, nat_le, nat_lt, if◌then◌else◌, Bool, List, [], ◌∷◌, length, Option, Some, None}
+-- The near end of a link of LLCP, a client of the other end's SNEP server, as C asks for it: by its sizes, the other
+-- end's general bytes, and its calls with the replies that came (NFC Forum LLCP 1.3 and SNEP 1.0; how C keeps them, and
+-- the numbers of faults, are this project's own).
+use Rattle.std.specs.Prelude.{◌≡◌, ◌⊎◌, ◌+◌, ℕ, ℤ, negsuc, ◌==◌, ◌&&◌, nat_le, nat_lt, if◌then◌else◌, Bool, List, []}
+use Rattle.std.specs.Prelude.{◌∷◌, length, Option, Some, None}
 use Rattle.std.specs.Int.{w32, from_be_bytes}
 use Rattle.std.specs.Str.{is_utf8}
 use Rattle.llcp_pdu.specs.General.{IsMiu}

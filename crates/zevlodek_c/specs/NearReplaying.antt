@@ -1,5 +1,7 @@
--- A near end behind the calls and the replies of a log, for private calls: no public contract speaks of it, the table is Near.antt.
-use Rattle.std.specs.Prelude.{◌≡◌, ◌≤◌, ◌⊎◌, ℕ, List, [], length, Bool, true, false, if◌then◌else◌, Option, Some, None, Result, Ok, Err, IfOk, OnErr}
+-- A near end behind the calls and the replies of a log, for private calls: no public contract speaks of it, the table
+-- is Near.antt.
+use Rattle.std.specs.Prelude.{◌≡◌, ◌≤◌, ◌⊎◌, ℕ, List, [], length, Bool, true, false, if◌then◌else◌, Option, Some, None}
+use Rattle.std.specs.Prelude.{Result, Ok, Err, IfOk, OnErr}
 use Rattle.snep_core.specs.declared.fault.SnepFault.{SnepFault}
 use Rattle.snep_core.specs.declared.fault.SnepFault.TheVariants as faults
 use Rattle.snep_core.specs.Calling.{ClientState}
@@ -15,7 +17,8 @@ use Rattle.zevlodek_c.specs.declared.near.Stand.TheVariants as stands
 use Rattle.zevlodek_c.specs.declared.showing.Told.{Told}
 use Rattle.zevlodek_c.specs.Codes.{send, silent}
 use Rattle.zevlodek_c.specs.Entries.{Entry, IsEntryLog, SpellsEntries, SpellsEntry, a_reply, takes_all}
-use Rattle.zevlodek_c.specs.Near.{NearCall, NearNow, Rests, Under, Came, call_begins, came_shown, most_reply, near_takes, settles}
+use Rattle.zevlodek_c.specs.Near.{NearCall, NearNow, Rests, Under, Came, call_begins, came_shown, most_reply}
+use Rattle.zevlodek_c.specs.Near.{near_takes, settles}
 use Rattle.zevlodek_c.specs.Showing.{Seen, shows, answers}
 
 -- the reply that a log begins with
@@ -57,8 +60,8 @@ pub record Reaches (from : NearNow) (log : List ℕ) (now : NearNow) (rest : Lis
   pub goes : (es : List Entry) → SpellsEntries es log → (more : List Entry) × SpellsEntries more rest
       × (takes_all near_takes (Some from) es ≡ takes_all near_takes (Some now) more)
 
--- A call that stopped: where it kept a payload it is under way, at this payload, and the log has no more; where it met what
--- is no reply no end takes the log.
+-- A call that stopped: where it kept a payload it is under way, at this payload, and the log has no more; where it met
+-- what is no reply no end takes the log.
 pub record IsStopped (from : Step) (f g : LogFar) : Type 0 where
   pub asked : (p : List ℕ) → g.asked ≡ Some p
       → (w : Working) × Reaches (settles from) f.left.now (Under w) [] × (p ≡ payload 0 w)
@@ -119,5 +122,6 @@ pub record IsStanding (l : EndState) (log : List ℕ) (stand : Stand) : Type 0 w
 -- where a client stands behind a log that began so, or that it takes no such log
 abbrev pub IsNearReplay : EndState → List ℕ → Result Stand NearFault → Type 0
 IsNearReplay l log (Ok stand) = IsStanding l log stand
-IsNearReplay l log (Err Log) = (es : List Entry) → SpellsEntries es log → takes_all near_takes (Some (Rests l)) es ≡ None
+IsNearReplay l log (Err Log) = (es : List Entry) → SpellsEntries es log
+    → takes_all near_takes (Some (Rests l)) es ≡ None
 IsNearReplay l log (Err Memory) = Unit {0}

@@ -1,7 +1,8 @@
 -- The far end of a link of LLCP with a SNEP server, as C asks for it: by its sizes, what it offers for get, the other
 -- end's general bytes, and the payloads that came (NFC Forum LLCP 1.3 and SNEP 1.0; how C keeps them is this project's
 -- own).
-use Rattle.std.specs.Prelude.{◌≡◌, ◌<◌, ◌≤◌, ◌⊎◌, ℕ, List, [], ◌∷◌, ◌++◌, length, get_or, nat_lt, if◌then◌else◌, Bool, true, false, ◌&&◌}
+use Rattle.std.specs.Prelude.{◌≡◌, ◌<◌, ◌≤◌, ◌⊎◌, ℕ, List, [], ◌∷◌, ◌++◌, length, get_or, nat_lt, if◌then◌else◌, Bool}
+use Rattle.std.specs.Prelude.{true, false, ◌&&◌}
 use Rattle.llcp_pdu.specs.General.{IsMiu}
 use Rattle.llcp_conn.specs.Conn.{IsWindow}
 use Rattle.llcp_link.specs.Kept.{most_payload}
@@ -10,7 +11,8 @@ use Rattle.llcp_link.specs.Taking.{taken_from}
 use Rattle.llcp_link.specs.Giving.{given, after_giving}
 use Rattle.snep_core.specs.Naming.{snep_bound}
 use Rattle.snep_core.specs.Session.{Offer}
-use Rattle.snep_core.specs.Server.{Received, ServerState, IsLimit, fresh_server, offered, messages_of, sources_of, serving}
+use Rattle.snep_core.specs.Server.{Received, ServerState, IsLimit, fresh_server, offered, messages_of, sources_of}
+use Rattle.snep_core.specs.Server.{serving}
 use Rattle.zevlodek_c.specs.declared.peer.Peer.{Peer}
 use Rattle.zevlodek_c.specs.declared.showing.Told.{Told}
 use Rattle.zevlodek_c.specs.Codes.{done, bad_log, bad_argument, no_memory}
@@ -98,7 +100,8 @@ IsShown shown a out told seen = (seen ≡ shown a out told) ⊎ (seen ≡ answer
 -- before memory is asked for.
 pub record PeerTells (shown : Answered → List ℕ → Told → Seen) (p : Peer) (offers general log out : List ℕ)
     (told : Told) (seen : Seen) : Type 0 where
-  pub taken : (os : List Offer) (payloads : List (List ℕ)) → IsPeer p → SpellsOffers os offers → SpellsPayloads payloads log
+  pub taken : (os : List Offer) (payloads : List (List ℕ)) → IsPeer p → SpellsOffers os offers
+      → SpellsPayloads payloads log
       → IsShown shown (answered_all (unasked (begun_end p os general)) payloads) out told seen
   pub no_log : IsPeerAsked p offers → (IsPayloadLog log → ⊥) → seen ≡ answers bad_log out told
   pub refused : (IsPeerAsked p offers → ⊥) → seen ≡ answers bad_argument out told
@@ -125,7 +128,8 @@ message_at index a = get_or (messages_of (accepted_of a)) index []
 
 abbrev pub message_shown : ℕ → Answered → List ℕ → Told → Seen
 message_shown index a out told =
-    if nat_lt index (length (accepted_of a)) then shows done (message_at index a) out told else answers bad_argument out told
+    if nat_lt index (length (accepted_of a)) then shows done (message_at index a) out told
+    else answers bad_argument out told
 
 -- and the client's SAP that it came from
 abbrev pub source_at : ℕ → Answered → ℕ

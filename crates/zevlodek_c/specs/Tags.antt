@@ -1,4 +1,5 @@
--- One step of a tag whose memory C keeps, and of a Type 2 tag (this project's own; the table is that of the tag's crate).
+-- One step of a tag whose memory C keeps, and of a Type 2 tag (this project's own; the table is that of the tag's
+-- crate).
 use Rattle.std.specs.Prelude.{◌≡◌, ℕ, ℤ, suc, ◌≤◌, ◌==◌, ◌⊎◌, List, [], ◌∷◌, length, Option, Some, None}
 use Rattle.std.specs.Prelude.{nat_le, if◌then◌else◌, Bool, not}
 use Rattle.nfc_base.specs.Signal.{Signal, IsBadTail, part_a}
@@ -54,7 +55,8 @@ abbrev pub undone : {K : Type 0} → ℤ → K → List ℕ → Told → Stepped
 undone answer kept out told = record { kept = kept; seen = answers answer out told }
 
 -- What a step does: of a tag that may be handed in, its table's step; of what isn't one, nothing.
-pub record T2Steps (memory locks command : List ℕ) (bits : ℕ) (out : List ℕ) (told : Told) (after : Stepped (List ℕ)) : Type 0
+pub record T2Steps (memory locks command : List ℕ) (bits : ℕ) (out : List ℕ) (told : Told) (after : Stepped (List ℕ))
+    : Type 0
   where
     pub taken : IsT2Asked memory locks command bits
         → (after ≡ t2_stepped memory locks (part_a command bits) out told) ⊎ (after ≡ undone no_memory memory out told)

@@ -1,5 +1,5 @@
-//! The other end of a link, as far as a log goes: it gives the replies of the log, over a carrier that hands each payload
-//! over at once.
+//! The other end of a link, as far as a log goes: it gives the replies of the log, over a carrier that hands each
+//! payload over at once.
 
 ghost use Rattle.std.specs.Prelude.{◌≡◌, ◌≤◌, ℕ, List, None, Some, length, false, IfSome};
 ghost use Rattle.zevlodek_c.specs.NearReplaying.{SpellsReply};
@@ -12,8 +12,8 @@ use std::alloc::{AllocError, Global};
 /// The longest payload.
 pub const MOST_PAYLOAD: usize = 2178;
 
-/// The replies that are left in a log. Behind them it keeps the payload that it is handed, and stops; where what follows
-/// is no reply it stops too.
+/// The replies that are left in a log. Behind them it keeps the payload that it is handed, and stops; where what
+/// follows is no reply it stops too.
 #[derive(Drop)]
 pub struct LogFar<'a> {
     pub left: &'a [u8],

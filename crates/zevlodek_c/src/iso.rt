@@ -2,7 +2,8 @@
 
 ghost use Rattle.std.specs.Prelude.{◌≡◌, ◌≤◌};
 ghost use Rattle.zevlodek_c.specs.Entries.{EndTells};
-ghost use Rattle.zevlodek_c.specs.Iso.{CardTells, card_begins, card_shown, card_takes, reader_begins, reader_shown, reader_takes};
+ghost use Rattle.zevlodek_c.specs.Iso.{CardTells, card_begins, card_shown, card_takes, reader_begins, reader_shown};
+ghost use Rattle.zevlodek_c.specs.Iso.{reader_takes};
 
 use crate::codes::{ASLEEP, BAD_ARGUMENT, BAD_LOG, DONE, NO_ANSWER, SEND, SILENT, SIX_BAD};
 use crate::entries::{BEGUN, FRAME, REPLY, Replayed, heard_of, replay};
@@ -134,8 +135,8 @@ fn show_card(side: CardSide, out: &mut [u8], told: &mut Told) -> i32
     }
 }
 
-/// Goes on as a card with this size code: `SEND` where the frame in `out` is to be sent, `DONE` where the command there is
-/// to be replied to.
+/// Goes on as a card with this size code: `SEND` where the frame in `out` is to be sent, `DONE` where the command there
+/// is to be replied to.
 #[tactic(auto, using(crate::proofs::EntryLogs::tells_replayed))]
 #[unsafe(no_mangle)]
 pub extern "C" fn zev_iso_card_next(code: u8, log: &[u8], out: &mut [u8], told: &mut Told) -> i32

@@ -1,9 +1,10 @@
-//! The near end of a link of LLCP, a client of the other end's SNEP server, as a function of its calls and of the replies
-//! that came.
+//! The near end of a link of LLCP, a client of the other end's SNEP server, as a function of its calls and of the
+//! replies that came.
 
 ghost use Rattle.std.specs.Prelude.{◌≡◌, ◌↔◌, ◌≤◌, ◌<◌, IsTrue, false, true, None, length, IfSome, OnOk};
 ghost use Rattle.snep_core.specs.Talk.{Finds, Gets, Puts, begins, begins_from, closes, sap_of_slot};
-ghost use Rattle.zevlodek_c.specs.Near.{IsNear, NearTells, call_of, came_shown, does_on, get_of, is_name, near_end, snep_fault};
+ghost use Rattle.zevlodek_c.specs.Near.{IsNear, NearTells, call_of, came_shown, does_on, get_of, is_name, near_end};
+ghost use Rattle.zevlodek_c.specs.Near.{snep_fault};
 ghost use Rattle.zevlodek_c.specs.NearReplaying.{IsFresh, IsGoing, IsNearReplay, IsObeyed, Obeys};
 ghost use Rattle.zevlodek_c.specs.NearReplaying.{failed_by, stand_of, stand_shown, stopped_at};
 
@@ -333,8 +334,8 @@ fn is_near(near: &Near) -> bool
     miu && (1 <= near.window && near.window <= 15)
 }
 
-/// Goes on as a client of the other end's server: `SEND` where the payload in `out` is to be sent, `DONE` where the last
-/// call is over.
+/// Goes on as a client of the other end's server: `SEND` where the payload in `out` is to be sent, `DONE` where the
+/// last call is over.
 #[tactic(auto, using(crate::proofs::Nears::near_tells))]
 #[unsafe(no_mangle)]
 pub extern "C" fn zev_client_next(

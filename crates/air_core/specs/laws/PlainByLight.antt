@@ -19,10 +19,11 @@ second : (v w : Bool) → (v && w) ≡ true → w ≡ true
 second true w e = e
 second false w e = absurd cc
 
--- A listener of another technology than NFC-A stays selected once it is, by the law of listeners. So it takes commands as
--- they are sent where it does while it is selected, by something that holds of it and that each frame keeps.
+-- A listener of another technology than NFC-A stays selected once it is, by the law of listeners. So it takes commands
+-- as they are sent where it does while it is selected, by something that holds of it and that each frame keeps.
 pub plain_by_light : {L : Type 0} (k : Ghosts L)
-    → ((l : L) (f : Signal) (reply : Option (List ℕ)) → (k.machine.tech l ≡ A → ⊥) → k.is_selected l ≡ true → k.is_selected (k.machine.after l f reply) ≡ true)
+    → ((l : L) (f : Signal) (reply : Option (List ℕ)) → (k.machine.tech l ≡ A → ⊥) → k.is_selected l ≡ true
+    → k.is_selected (k.machine.after l f reply) ≡ true)
     → (kind : TagKind) (identifier : List ℕ) (holds : L → Bool)
     → ((m : L) → holds m ≡ true → k.machine.tech m ≡ A → ⊥)
     → ((m : L) (f : Signal) → MayAsk kind identifier f → holds m ≡ true → holds (k.machine.after m f None) ≡ true)

@@ -1,6 +1,7 @@
--- One wait of a tag that takes commands as they are sent: the turns that were made, and what each end of it leaves (this
--- project's own air).
-use Rattle.std.specs.Prelude.{◌≡◌, ◌⊎◌, ℕ, zero, suc, ◌*◌, ◌<◌, ◌≤◌, List, [], ◌∷◌, ◌++◌, length, true, false, nat_lt, if◌then◌else◌, Some, None, Result, Ok, Err}
+-- One wait of a tag that takes commands as they are sent: the turns that were made, and what each end of it leaves
+-- (this project's own air).
+use Rattle.std.specs.Prelude.{◌≡◌, ◌⊎◌, ℕ, zero, suc, ◌*◌, ◌<◌, ◌≤◌, List, [], ◌∷◌, ◌++◌, length, true, false, nat_lt}
+use Rattle.std.specs.Prelude.{if◌then◌else◌, Some, None, Result, Ok, Err}
 use Rattle.nfc_base.specs.declared.event.Event.{Event}
 use Rattle.nfc_base.specs.declared.tag_link.AskFault.{AskFault}
 use Rattle.nfc_base.specs.declared.tag_link.AskFault.TheVariants.{FieldLost, SixBad, Memory, Protocol}
@@ -29,7 +30,8 @@ times f (suc n) = f ∷ times f n
 module _ {L : Type 0} (k : Ghosts L) where
   -- Of a wait so many turns were made, and the tag heard the command in so many of them. This is what it then is, and
   -- what was answered.
-  pub record Waited (old new : Air L) (place : ℕ) (f : Signal) (tag : L) (turns heard : ℕ) (s : Standing) (left : L) (done : List Signal) : Type 0 where
+  pub record Waited (old new : Air L) (place : ℕ) (f : Signal) (tag : L) (turns heard : ℕ) (s : Standing) (left : L)
+      (done : List Signal) : Type 0 where
     pub alone : IsAlone k (k.identifier tag) new.listeners place left
     pub notes : List Note
     pub going : Going (quiet_air k.machine) (waits_next (f ∷ [])) (moment old) (moment new) notes
@@ -40,10 +42,11 @@ module _ {L : Type 0} (k : Ghosts L) where
     pub obeyed : obeyed_in (k.machine.tech tag) events ≡ times f heard
     pub answered : answered_in events ≡ done
     pub most : length events ≤ 2 * turns
-    pub images : Follows (k.store tag) (stores_after k place (world old) events) (passed (k.commands tag) (plain_state (k.store tag)) (times f heard))
+    pub images : Follows (k.store tag) (stores_after k place (world old) events)
+        (passed (k.commands tag) (plain_state (k.store tag)) (times f heard))
 
-  -- After so many bad receptions of the command, the field is as lit as before, and the tag doesn't answer, or something
-  -- didn't pass.
+  -- After so many bad receptions of the command, the field is as lit as before, and the tag doesn't answer, or
+  -- something didn't pass.
   pub record GoesOn (old new : Air L) (place : ℕ) (f : Signal) (tag : L) (bad : ℕ) : Type 0 where
     pub heard : ℕ
     pub waits : Waited old new place f tag bad heard (after_bad f bad) (heard_times k tag f heard) []
@@ -68,7 +71,8 @@ module _ {L : Type 0} (k : Ghosts L) where
   pub record Darkened (old new : Air L) (place : ℕ) (f : Signal) (tag : L) : Type 0 where
     pub turns : ℕ
     pub heard : ℕ
-    pub waits : Waited old new place f tag turns heard (Broken FieldLost (f ∷ [])) (k.machine.darkened (heard_times k tag f heard)) []
+    pub waits : Waited old new place f tag turns heard (Broken FieldLost (f ∷ []))
+        (k.machine.darkened (heard_times k tag f heard)) []
     pub bound : turns ≤ 6
     pub noisy : 0 < noise waits.events
     pub dim : new.lit ≡ false
@@ -83,7 +87,8 @@ module _ {L : Type 0} (k : Ghosts L) where
   -- how a wait ends
   abbrev pub EndsBy : Air L → Air L → ℕ → Signal → L → Result Signal AskFault → Type 0
   EndsBy old new place f tag (Ok reply) = Answered old new place f tag reply
-  EndsBy old new place f tag (Err FieldLost) = ((old.lit ≡ false) × GoesOn old new place f tag 0) ⊎ Darkened old new place f tag
+  EndsBy old new place f tag (Err FieldLost) = ((old.lit ≡ false) × GoesOn old new place f tag 0)
+      ⊎ Darkened old new place f tag
   EndsBy old new place f tag (Err SixBad) = GoesOn old new place f tag 6
   EndsBy old new place f tag (Err Memory) = Stopped old new place f tag
   EndsBy old new place f tag (Err Protocol) = ⊥

@@ -152,7 +152,8 @@ module _ (own : List ℕ) where
     abbrev IsWhole : Signal → Type 0
     IsWhole f = f ≡ whole_a f.bytes
 
-    events_leave : (place : ℕ) (es : List Event) (w : World Device) → EachAsked IsWhole es → PeerAt own place w.listeners → TalkLeaves own place w.listeners (replay (answering_air devices r) w es).listeners
+    events_leave : (place : ℕ) (es : List Event) (w : World Device) → EachAsked IsWhole es → PeerAt own place w.listeners
+        → TalkLeaves own place w.listeners (replay (answering_air devices r) w es).listeners
     events_leave place [] w h a = leaves_all own place w.listeners a
     events_leave place (Reset ∷ es) w h a =
         let x = lit_leaves place w.listeners a in

@@ -92,7 +92,8 @@ module _ (general : List ℕ) (short : length general ≤ 48) where
     pub waits_none : (g : Signal) (notes : List Note) → atr_next general notes ≡ Asks g → g ≡ f
     waits_none g notes e = due_all (λ h. h ≡ f) (f ∷ []) (refl, tt) notes g e
 
-    nothing_more : (notes : List Note) (mid new : Air Device) (half after : F) → LeavesOff devices restarts obeys (atr_next general) stops is_stuck notes mid half new after → (new ≡ mid) × (after ≡ half)
+    nothing_more : (notes : List Note) (mid new : Air Device) (half after : F) → LeavesOff devices restarts obeys (atr_next general) stops is_stuck notes mid half new after
+        → (new ≡ mid) × (after ≡ half)
     nothing_more notes mid new half after (inl same) = same
     nothing_more notes mid new half after (inr (g, due, stop)) =
         absurd (none_stops mid.listeners half stop.listeners after
@@ -157,7 +158,8 @@ module _ (old : Air Device) (place : ℕ) (d : Device) (s : Stands (moment old) 
   module _ {F : Type 0} (restarts : F → List ℕ → F → Type 0) (obeys : F → List ℕ → List ℕ → F → Type 0) (stops : F → List ℕ → F → Type 0) (is_stuck : F → Bool) (far : F) (new : Air Device) (after : F)
       (general : List ℕ) (short : length general ≤ 48) (result : Result (InitState × ArrayVec ℕ) EndCause)
       (turns : AsksAtr devices restarts obeys stops is_stuck old far new after general result) (ends : AtrEnds ghosts device_end restarts old new general (device_end d) far after result) where
-    sent_by : (r : Result (InitState × ArrayVec ℕ) EndCause) → AtrEnds ghosts device_end restarts old new general (device_end d) far after r → (st : Standing) × AtrSent ghosts device_end restarts old new general far after st
+    sent_by : (r : Result (InitState × ArrayVec ℕ) EndCause) → AtrEnds ghosts device_end restarts old new general (device_end d) far after r
+        → (st : Standing) × AtrSent ghosts device_end restarts old new general far after st
     sent_by (Ok p) e = (Asking 0 [], e.0)
     sent_by (Err FieldLost) (inl (dark, same, far_same)) = absurd (let clash : true ≡ false = sym lit_before ∙ dark in cc)
     sent_by (Err FieldLost) (inr lost) = (Broken faults.FieldLost (atr_frame general ∷ []), lost.0)

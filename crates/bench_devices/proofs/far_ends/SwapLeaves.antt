@@ -67,7 +67,8 @@ module _ (own : List ℕ) (place : ℕ) where
   will_do None = tt
   will_do (Some r) = refl
 
-  turns_leave : (a b : DepSeen Device) (t : PeerOf ghosts device_end a) (out : List ℕ) (given : Option (List ℕ)) → TurnsOf ghosts device_end a b t out given → PeerAt own place a.air.listeners → Leaves a b
+  turns_leave : (a b : DepSeen Device) (t : PeerOf ghosts device_end a) (out : List ℕ) (given : Option (List ℕ)) → TurnsOf ghosts device_end a b t out given → PeerAt own place a.air.listeners
+      → Leaves a b
   turns_leave a b t out given turns at =
       let x = turns.1 in
       going_leaves own (reply_in given) place (dep_next a.initiator out) (moment a.air) (moment b.air) x.notes (dep_whole a.initiator out) (x.going (reply_in given) (will_do given)) at

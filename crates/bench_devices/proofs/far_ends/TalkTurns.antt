@@ -108,7 +108,8 @@ module _ (own : List ℕ) (f : Signal) (whole : f ≡ whole_a f.bytes) where
     peer_met : (l : Device) (far : F) (answer : Option Signal) (m : Device) (mid : F) → kind_of l ≡ PeerKind → Meets devices restarts steps f l far answer m mid → OneLeaves l m
     peer_met l far answer m mid is step = subst (OneLeaves l) (sym step.left) (peer_left l step.reply is)
 
-    all_met : (ls : List Device) (far : F) (said : List Signal) (ms : List Device) (after : F) → AllByRecursion (IsAside ghosts own) ls → HearAll devices restarts steps f ls far said ms after → AllLeave ls ms
+    all_met : (ls : List Device) (far : F) (said : List Signal) (ms : List Device) (after : F) → AllByRecursion (IsAside ghosts own) ls → HearAll devices restarts steps f ls far said ms after
+        → AllLeave ls ms
     all_met [] far said ms after a h = subst (AllLeave []) (sym h.1) (all_same [] tt)
     all_met (l ∷ ls) far said ms after a h =
         subst (AllLeave (l ∷ ls)) (sym h.8) (all_more l h.2 ls h.4 (aside_met l far h.0 h.2 h.3 a.0 h.5) (all_met ls h.3 h.1 h.4 after a.1 h.6))
@@ -145,7 +146,8 @@ module _ (own : List ℕ) (f : Signal) (whole : f ≡ whole_a f.bytes) where
 
     -- a turn that a far end broke off
     module _ (stops : F → List ℕ → F → Type 0) (is_stuck : F → Bool) where
-      all_some : (ls : List Device) (far : F) (ms : List Device) (after : F) → AllByRecursion (IsAside ghosts own) ls → HearSome devices restarts steps stops is_stuck f ls far ms after → AllLeave ls ms
+      all_some : (ls : List Device) (far : F) (ms : List Device) (after : F) → AllByRecursion (IsAside ghosts own) ls → HearSome devices restarts steps stops is_stuck f ls far ms after
+          → AllLeave ls ms
       all_some [] far ms after a h = absurd h
       all_some (l ∷ ls) far ms after a (m, later, left, inl (stop, same)) =
           let one : OneLeaves l m × IsAside ghosts own m = subst (λ x. OneLeaves l x × IsAside ghosts own x) (sym stop.left) (aside_left l a.0) in
@@ -153,7 +155,8 @@ module _ (own : List ℕ) (f : Signal) (whole : f ≡ whole_a f.bytes) where
       all_some (l ∷ ls) far ms after a (m, later, left, inr (answer, mid, meets, more)) =
           subst (AllLeave (l ∷ ls)) (sym left) (all_more l m ls later (aside_met l far answer m mid a.0 meets) (all_some ls mid later after a.1 more))
 
-      at_some : (place : ℕ) (ls : List Device) (far : F) (ms : List Device) (after : F) → PeerAt own place ls → HearSome devices restarts steps stops is_stuck f ls far ms after → TalkLeaves own place ls ms
+      at_some : (place : ℕ) (ls : List Device) (far : F) (ms : List Device) (after : F) → PeerAt own place ls → HearSome devices restarts steps stops is_stuck f ls far ms after
+          → TalkLeaves own place ls ms
       at_some place [] far ms after a h = absurd a
       at_some zero (l ∷ ls) far ms after a (m, later, left, inl (stop, same)) =
           subst (TalkLeaves own zero (l ∷ ls)) (sym left)
@@ -166,7 +169,8 @@ module _ (own : List ℕ) (f : Signal) (whole : f ≡ whole_a f.bytes) where
       at_some (suc place) (l ∷ ls) far ms after a (m, later, left, inr (answer, mid, meets, more)) =
           subst (TalkLeaves own (suc place) (l ∷ ls)) (sym left) (at_more l m place ls later (aside_met l far answer m mid a.0 meets) (at_some place ls mid later after a.1 more))
 
-      stops_leave : (place : ℕ) (old new : Air Device) (far after : F) → PeerAt own place old.listeners → Stops devices restarts steps stops is_stuck old f far new after → TalkLeaves own place old.listeners new.listeners
+      stops_leave : (place : ℕ) (old new : Air Device) (far after : F) → PeerAt own place old.listeners → Stops devices restarts steps stops is_stuck old f far new after
+          → TalkLeaves own place old.listeners new.listeners
       stops_leave place old new far after a s =
           let P : Air Device → Type 0 = λ z. TalkLeaves own place old.listeners z.listeners in
           subst P (sym s.left) (at_some place old.listeners far s.listeners after a s.some)
@@ -194,5 +198,6 @@ module _ {F : Type 0} (restarts : F → List ℕ → F → Type 0) (steps : F �
   by_result (Ok u) (h, t) = one_turn (Some h) t
   by_result (Err e) (none, h) = fails_leave e.cause h
 
-pub release_leaves : {F : Type 0} (restarts : F → List ℕ → F → Type 0) (steps : F → List ℕ → List ℕ → F → Type 0) (stops : F → List ℕ → F → Type 0) (is_stuck : F → Bool) → ReleaseLeaves restarts steps stops is_stuck
+pub release_leaves : {F : Type 0} (restarts : F → List ℕ → F → Type 0) (steps : F → List ℕ → List ℕ → F → Type 0) (stops : F → List ℕ → F → Type 0) (is_stuck : F → Bool)
+    → ReleaseLeaves restarts steps stops is_stuck
 release_leaves restarts steps stops is_stuck own place old new far after result at r = by_result restarts steps stops is_stuck own place old new far after at result r

@@ -39,8 +39,10 @@ over_told (Reaches Begins) r fed e = absurd (fed e)
 over_told (Reaches (Runs s)) r fed e = over_stage s.found s.stage r fed e
 over_told Loses r fed e = refl
 
-module _ (old new : Air Device) (r : Result (List (List ℕ)) PollFault) (tame : AreTame (map kept old.listeners)) (enquires : Enquires finding_all devices old r new) (found : FindsTags devices old r new) (crowd : SearchesCrowd devices old r new) (ascending : AreAscending r)
-    (causes : HasCauses (turns_since old new) r) (lost : (r ≡ Err faults.FieldLost → 0 < breaks (drop (length old.trace) new.trace)) × (0 < breaks (drop (length old.trace) new.trace) → r ≡ Err faults.FieldLost)) where
+module _ (old new : Air Device) (r : Result (List (List ℕ)) PollFault) (tame : AreTame (map kept old.listeners)) (enquires : Enquires finding_all devices old r new)
+    (found : FindsTags devices old r new) (crowd : SearchesCrowd devices old r new) (ascending : AreAscending r)
+    (causes : HasCauses (turns_since old new) r) (lost : (r ≡ Err faults.FieldLost → 0 < breaks (drop (length old.trace) new.trace))
+    × (0 < breaks (drop (length old.trace) new.trace) → r ≡ Err faults.FieldLost)) where
   quiet : PollsQuietly finding_all old r new
   quiet = quietly finding_all (λ ns f e. other_hands_none f (of_nfc_v ns f e)) old new r enquires
 

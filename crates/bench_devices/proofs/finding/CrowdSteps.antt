@@ -1,5 +1,6 @@
 -- The Type 5 tags of the bench among its devices, as a search for all of them meets them: it changes nothing that stays.
-use Rattle.std.proofs.Common.{◌≡◌, ℕ, suc, ◌<◌, ◌≤◌, arith, List, [], ◌∷◌, map, length, slice_index, take, drop, filter_map, Bool, true, false, not, ◌&&◌, ◌==◌, nat_eq, replicate, if◌then◌else◌, Option, Some, None, refl, sym, ◌∙◌, ap, subst}
+use Rattle.std.proofs.Common.{◌≡◌, ℕ, suc, ◌<◌, ◌≤◌, arith, List, [], ◌∷◌, map, length, slice_index, take, drop, filter_map, Bool, true, false, not, ◌&&◌, ◌==◌, nat_eq, replicate, if◌then◌else◌}
+use Rattle.std.proofs.Common.{Option, Some, None, refl, sym, ◌∙◌, ap, subst}
 use Rattle.std.specs.Int.{w64, to_le_bytes}
 use Rattle.std.specs.List.{AllByRecursion}
 use Rattle.nfc_base.specs.declared.frame.Tech.TheVariants.{A, V, F}
@@ -35,7 +36,8 @@ use Rattle.air_core.proofs.Following.{same_asked, light_is_no_request, over_is_n
 use Rattle.bench_devices.proofs.finding.SelectingKept.{IsHarmless}
 
 -- What holds of each request that a search makes.
-module _ (P : Signal → Type 0) (slotted : (m : Mask) → P (slots_frame m)) (moving : P (command_frame NextSlot)) (hushing : (id : List ℕ) → P (command_frame (Quiet id))) (asking : (mask : List ℕ) → P (command_frame (Inventory 0 mask))) where
+module _ (P : Signal → Type 0) (slotted : (m : Mask) → P (slots_frame m)) (moving : P (command_frame NextSlot)) (hushing : (id : List ℕ) → P (command_frame (Quiet id)))
+    (asking : (mask : List ℕ) → P (command_frame (Inventory 0 mask))) where
   by_slot : (m : Mask) (v : Bool) → P (if v then slots_frame m else command_frame NextSlot)
   by_slot m true = slotted m
   by_slot m false = moving

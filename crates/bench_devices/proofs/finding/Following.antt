@@ -8,7 +8,8 @@ use Rattle.nfc_base.specs.declared.event.Event.{Event}
 use Rattle.nfc_base.specs.declared.event.Event.TheVariants.{Reset}
 use Rattle.nfc_base.specs.declared.event.Fate.{Fate}
 use Rattle.nfc_base.specs.declared.event.Heard.{Heard}
-use Rattle.air_core.specs.Conversation.{AirModel, Note, Lit, Got, Lost, note, Next, Over, LightUp, Asks, IsDemand, EachDue, replay, turn_events, turn_heard, Move, Light, Ask, trace_of, Moment, Going, receptions}
+use Rattle.air_core.specs.Conversation.{AirModel, Note, Lit, Got, Lost, note, Next, Over, LightUp, Asks, IsDemand, EachDue, replay, turn_events, turn_heard, Move, Light, Ask, trace_of, Moment, Going}
+use Rattle.air_core.specs.Conversation.{receptions}
 use Rattle.air_core.proofs.Turns.{receptions-append}
 use Rattle.air_core.proofs.Following.{no_demand, turn_first, trace_first, turn_known, turn_split, nothing_more}
 use Rattle.nfca_poll.specs.declared.fault.PollFault.{PollFault}
@@ -86,8 +87,10 @@ module _ {S X : Type 0} (e : Enquiry S X) where
     turn_note w f x y = ap receptions (sym (append-nil (turn_events m w f x y))) ∙ turn_known m w f x y [] refl
 
     module _ (before : List Event) (s : S) (at : Came before (Reaches s)) (w : W) (f : Signal) (x y : Fate) (ks : List (Move m))
-        (more : (g : Heard) → Came (before ++ turn_events m w f x y) (Reaches (e.step s g)) → EachDue (enquiring e) (before ++ turn_events m w f x y) (behind w f x y ks) → Driven (e.step s g) (receptions (behind w f x y ks))) where
-      driven_by : (h : Option Heard) → turn_heard m w f x y ≡ h → IsDemand (e.next s) → EachDue (enquiring e) (before ++ turn_events m w f x y) (behind w f x y ks) → Driven s (note h ∷ receptions (behind w f x y ks))
+        (more : (g : Heard) → Came (before ++ turn_events m w f x y) (Reaches (e.step s g)) → EachDue (enquiring e) (before ++ turn_events m w f x y) (behind w f x y ks)
+        → Driven (e.step s g) (receptions (behind w f x y ks))) where
+      driven_by : (h : Option Heard) → turn_heard m w f x y ≡ h → IsDemand (e.next s) → EachDue (enquiring e) (before ++ turn_events m w f x y) (behind w f x y ks)
+          → Driven s (note h ∷ receptions (behind w f x y ks))
       driven_by (Some h) is due p =
           (due, more h (came_more before (turn_events m w f x y) s (Got h ∷ []) (turn_fresh w f x y) (turn_note w f x y ∙ ap (λ o. note o ∷ []) is) at) p)
       driven_by None is due p =
@@ -97,7 +100,8 @@ module _ {S X : Type 0} (e : Enquiry S X) where
       driven_turn : EachDue (enquiring e) before (turn_events m w f x y ++ behind w f x y ks) → Driven s (receptions (turn_events m w f x y ++ behind w f x y ks))
       driven_turn p =
           let k = turn_split m (enquiring e) before w f x y (behind w f x y ks) p in
-          subst (Driven s) (sym (turn_known m w f x y (behind w f x y ks) (trace_first m (replay m w (turn_events m w f x y)) ks))) (driven_by (turn_heard m w f x y) refl (due_at before s (Asks f) at k.0 tt) k.1)
+          subst (Driven s) (sym (turn_known m w f x y (behind w f x y ks) (trace_first m (replay m w (turn_events m w f x y)) ks)))
+          (driven_by (turn_heard m w f x y) refl (due_at before s (Asks f) at k.0 tt) k.1)
 
     driven : (ks : List (Move m)) (w : W) (before : List Event) (s : S) → Came before (Reaches s) → EachDue (enquiring e) before (trace_of m w ks) → Driven s (receptions (trace_of m w ks))
     driven [] w before s at q = tt
@@ -152,7 +156,8 @@ module _ {S X : Type 0} (e : Enquiry S X) where
     told_from s None (Lost ∷ ns) r h d c starved = ap (λ ks. Told (Err faults.FieldLost) ks) d.1 ∙ ap (λ x. Told x []) (sym c)
 
     -- what it answers it has told, and nothing is known since, unless memory was wanting
-    pub told_same : {W : Type 0} (m : AirModel W) (a b : Moment W) (ns : List Note) (r : Result X PollFault) → Going m (enquiring e) a b ns → r ≡ answer_of e (progress e e.start ns) → (r ≡ Err faults.Memory → ⊥)
+    pub told_same : {W : Type 0} (m : AirModel W) (a b : Moment W) (ns : List Note) (r : Result X PollFault) → Going m (enquiring e) a b ns → r ≡ answer_of e (progress e e.start ns)
+        → (r ≡ Err faults.Memory → ⊥)
         → follows e ns ≡ Told r []
     told_same m a b ns r g c starved = told_from e.start (e.ended e.start) ns r refl (going_driven m a b ns g) c starved
 

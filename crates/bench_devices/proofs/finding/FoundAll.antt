@@ -1,5 +1,6 @@
 -- A search for all devices: what its two calls of polling asked, and what they came to.
-use Rattle.std.proofs.Common.{◌≡◌, ◌⊎◌, inl, inr, ℕ, zero, suc, ◌+◌, ◌<◌, ◌≤◌, List, [], ◌∷◌, ◌++◌, map, length, drop, filter_map, true, false, Option, Some, None, Result, Ok, Err, refl, sym, ◌∙◌, ap, subst, append_assoc, arith}
+use Rattle.std.proofs.Common.{◌≡◌, ◌⊎◌, inl, inr, ℕ, zero, suc, ◌+◌, ◌<◌, ◌≤◌, List, [], ◌∷◌, ◌++◌, map, length, drop, filter_map, true, false, Option, Some, None, Result, Ok, Err, refl, sym, ◌∙◌, ap}
+use Rattle.std.proofs.Common.{subst, append_assoc, arith}
 use Rattle.std.specs.List.{AllByRecursion}
 use Rattle.nfc_base.specs.declared.event.Event.{Event}
 use Rattle.air_core.specs.Joint.{same_signal}
@@ -230,7 +231,8 @@ module _ (old mid : Air Device) (found : Result (List Picked) PollFault) (tame :
         let at : mid.listeners ≡ _ = ap (λ (m : Moment (World Device)). m.world.listeners) turns.going.moment in
         subst (AllByRecursion IsAwake) (sym at) (awake_behind first (moment old).world turns.going.each turns.going.fresh unbroken asked_some)
 
-    module _ (new : Air Device) (r : Result Vcrowd PollFault) (more : PollsQuietly inventory mid r new) (cause : Each (IsSteady devices inventory_all) mid.listeners → HasCauseV devices mid r new) (lost_more : LosesByBreak mid r new) (lit : mid.lit ≡ true) where
+    module _ (new : Air Device) (r : Result Vcrowd PollFault) (more : PollsQuietly inventory mid r new) (cause : Each (IsSteady devices inventory_all) mid.listeners → HasCauseV devices mid r new)
+        (lost_more : LosesByBreak mid r new) (lit : mid.lit ≡ true) where
       abbrev rest : List Event
       rest = more.going.events
 
@@ -239,7 +241,8 @@ module _ (old mid : Air Device) (found : Result (List Picked) PollFault) (tame :
 
       abbrev whole : Going air next (moment old) (moment new) (turns.notes ++ more.notes)
       whole =
-          going_then air next (enquiring finding) (enquiring inventory) (moment old) (moment mid) (moment new) turns.notes more.notes first_asks (then_asks cards turns.notes told_well) turns.going more.going
+          going_then air next (enquiring finding) (enquiring inventory) (moment old) (moment mid) (moment new) turns.notes more.notes first_asks (then_asks cards turns.notes told_well) turns.going
+          more.going
 
       whole_is : whole.events ≡ first ++ rest
       whole_is =

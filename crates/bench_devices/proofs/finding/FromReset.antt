@@ -36,7 +36,8 @@ use Rattle.bench_devices.proofs.finding.SelectingV.{relit}
 use Rattle.bench_devices.proofs.finding.Sensed.{answers_in, stays_sensed, sensed_harmless, sensed_hands_none}
 use Rattle.bench_devices.proofs.finding.Unmoved.{OnlyAsks, AllHeard, AllStay, all_stay, all_heard}
 
-module _ {S X : Type 0} (e : Enquiry S X) (closes : Closes e) (asks_one : (ns : List Note) (f : Signal) → enquiring e ns ≡ Asks f → f ≡ sensf_req) (asks_no_light : (ns : List Note) → enquiring e ns ≡ LightUp → ⊥) where
+module _ {S X : Type 0} (e : Enquiry S X) (closes : Closes e) (asks_one : (ns : List Note) (f : Signal) → enquiring e ns ≡ Asks f → f ≡ sensf_req)
+    (asks_no_light : (ns : List Note) → enquiring e ns ≡ LightUp → ⊥) where
   only_due : (before es : List Event) → EachDue (enquiring e) before es → OnlyAsks sensf_req es
   only_due before [] q = tt
   only_due before (Reset ∷ es) q = absurd (asks_no_light (receptions before) q.0)

@@ -1,5 +1,6 @@
 -- What an inventory of all comes to among the bench's devices.
-use Rattle.std.proofs.Common.{◌≡◌, ◌⊎◌, inl, inr, ◌+◌, ◌==◌, ◌&&◌, ℕ, nat_lt, nat_eq, List, [], ◌∷◌, ◌++◌, map, length, drop, reverse, filter_map, Bool, true, false, if◌then◌else◌, Option, Some, None, Result, Ok, Err, refl, sym, ◌∙◌, ap, subst, arith}
+use Rattle.std.proofs.Common.{◌≡◌, ◌⊎◌, inl, inr, ◌+◌, ◌==◌, ◌&&◌, ℕ, nat_lt, nat_eq, List, [], ◌∷◌, ◌++◌, map, length, drop, reverse, filter_map, Bool, true, false, if◌then◌else◌, Option, Some, None}
+use Rattle.std.proofs.Common.{Result, Ok, Err, refl, sym, ◌∙◌, ap, subst, arith}
 use Rattle.std.proofs.lemmas.List.{length-reverse, reverse-reverse}
 use Rattle.std.specs.Cmp.Lexicographic.{pointwise}
 use Rattle.std.specs.List.{AllByRecursion, cons_option}
@@ -274,5 +275,6 @@ inventory_comes a b ns g awake sound =
     let heard : AllHeard (joint (filter_map says ds)) (receptions (trace_of air a.world g.turns.moves)) =
     all_heard inventory_all ds (stay_all ds awake) g.turns.moves a.world refl (subst (OnlyAsks inventory_all) made (only_due [] g.events g.each)) in
     let known : AllHeard (joint (filter_map says ds)) ns = subst (AllHeard (joint (filter_map says ds))) (ap receptions (sym made) ∙ g.known) heard in
-    let tells : Tells (joint (filter_map says ds)) (inventory_of (filter_map v_if ds)) = subst (λ gs. Tells (joint gs) (inventory_of (filter_map v_if ds))) (sym (all_answer ds awake)) (tells_of (filter_map v_if ds) (own_ids ds sound)) in
+    let tells : Tells (joint (filter_map says ds)) (inventory_of (filter_map v_if ds)) = subst (λ gs. Tells (joint gs) (inventory_of (filter_map v_if ds))) (sym (all_answer ds awake))
+    (tells_of (filter_map v_if ds) (own_ids ds sound)) in
     tries_come (inventory_of (filter_map v_if ds)) (joint (filter_map says ds)) tells ns 0 false known

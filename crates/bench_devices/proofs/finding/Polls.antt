@@ -56,7 +56,8 @@ module _ {S X : Type 0} (e : Enquiry S X) where
       fresh = fresh_more e.start (e.ended e.start) hs (note h) n at;
     }
 
-    pub poll_lit : Closes e → (start b c : Moment W) (hs : List Note) (n : Next) → Polls start b hs → follows e hs ≡ polls.Asks n → n ≡ LightUp → c ≡ with_events m b (Reset ∷ []) → Polls start c (hs ++ Lit ∷ [])
+    pub poll_lit : Closes e → (start b c : Moment W) (hs : List Note) (n : Next) → Polls start b hs → follows e hs ≡ polls.Asks n → n ≡ LightUp → c ≡ with_events m b (Reset ∷ [])
+        → Polls start c (hs ++ Lit ∷ [])
     poll_lit closes start b c hs n p at due reset = record {
       going = going_reset m (enquiring e) start b c hs p.going (sym (asks_same e closes hs) ∙ ap asks at ∙ due) reset;
       fresh = fresh_more e.start (e.ended e.start) hs Lit n at;

@@ -1,6 +1,7 @@
 -- A search by rounds over the bench's devices: what it asks are calls, it is over for good, and it leaves the field lit where it
 -- ends well.
-use Rattle.std.proofs.Common.{◌≡◌, ℕ, ◌+◌, ◌<◌, ◌≤◌, ◌==◌, ◌&&◌, nat_lt, nat_le, List, [], ◌∷◌, ◌++◌, length, slice_index, Bool, true, false, if◌then◌else◌, Option, Some, None, Result, Ok, Err, refl, sym, ◌∙◌, ap, subst, arith}
+use Rattle.std.proofs.Common.{◌≡◌, ℕ, ◌+◌, ◌<◌, ◌≤◌, ◌==◌, ◌&&◌, nat_lt, nat_le, List, [], ◌∷◌, ◌++◌, length, slice_index, Bool, true, false, if◌then◌else◌, Option, Some, None, Result, Ok, Err, refl}
+use Rattle.std.proofs.Common.{sym, ◌∙◌, ap, subst, arith}
 use Rattle.std.proofs.lemmas.List.{length-append}
 use Rattle.nfc_base.specs.declared.event.Heard.{Heard}
 use Rattle.nfc_base.specs.declared.event.Heard.TheVariants.{Whole, Collided, Damaged, Silent}
@@ -16,7 +17,8 @@ use Rattle.nfca_poll.specs.Levels.{bcc, cascades, identifier}
 use Rattle.nfca_poll.specs.Calls.{Call, Sens, Slp, Sdd, Sel, call_frame, sel_cmd, sel_par}
 use Rattle.nfca_poll.specs.Poll.{Seek, Calling, Asking, Selecting, Ended, Nobody, Disturbed, BadAnswer, Found, seek_step, seek_next, goes_on, level_bits, collision_bits, has_bit, kind_of, is_one_byte}
 use Rattle.nfca_poll.specs.Enquiry.{Progress, Reaches, Loses, progress, due_of, enquiring, answer_of}
-use Rattle.nfca_poll.specs.Rounds.{Search, Begins, Seeks, Sends, Told, Aim, most_rounds, most_found, next_round, has_found, met_or_taken, sought, search_next, search_lit, search_step, search_ended, searching}
+use Rattle.nfca_poll.specs.Rounds.{Search, Begins, Seeks, Sends, Told, Aim, most_rounds, most_found, next_round, has_found, met_or_taken, sought, search_next, search_lit, search_step, search_ended}
+use Rattle.nfca_poll.specs.Rounds.{searching}
 use Rattle.bench_devices.proofs.finding.Following.{HasEnded, Closes}
 use Rattle.air_core.proofs.Following.{same_asked, light_is_no_request, over_is_no_request}
 use Rattle.bench_devices.proofs.finding.SelectingAir.{stays_lit}

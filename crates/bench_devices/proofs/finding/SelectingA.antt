@@ -87,7 +87,8 @@ card_here : (d : Device) (ds : List Device) (c : Card) (b : List Card) → card_
 unfolding head_or tail_of
 card_here d ds c b e = record { before = []; device = d; behind = ds; split = refl; card = ap (head_or (card_of ours d)) e; first = refl; later = ap tail_of e }
 
-card_later : (d : Device) (ds : List Device) (x : Card) (a : List Card) (c : Card) (b : List Card) → IsCarded d → card_of ours d ∷ cards_of ds ≡ x ∷ (a ++ c ∷ b) → CardAt ds a c b → CardAt (d ∷ ds) (x ∷ a) c b
+card_later : (d : Device) (ds : List Device) (x : Card) (a : List Card) (c : Card) (b : List Card) → IsCarded d → card_of ours d ∷ cards_of ds ≡ x ∷ (a ++ c ∷ b) → CardAt ds a c b
+    → CardAt (d ∷ ds) (x ∷ a) c b
 unfolding head_or
 card_later d ds x a c b carded e r = record {
   before = d ∷ r.before;
@@ -192,7 +193,8 @@ module _ (id : List ℕ) (old new : Air Device) (r : Result Kind PollFault) (ide
 
   module _ (lost : r ≡ Err faults.FieldLost → 0 < breaks (drop (length old.trace) new.trace)) (crowd : SelectsAlone devices device_id id old r new) where
     ends : PickEnds id (cards_of old.listeners) r (cards_of new.listeners) events
-    ends = let P : List Event → Type 0 = λ es. PickEnds id (cards_of old.listeners) r (cards_of new.listeners) es in subst P trace_is (crowd polled (tidy old.listeners calm) (own_idents old.listeners tame))
+    ends = let P : List Event → Type 0 = λ es. PickEnds id (cards_of old.listeners) r (cards_of new.listeners) es in
+        subst P trace_is (crowd polled (tidy old.listeners calm) (own_idents old.listeners tame))
 
     calls : EachAsked (λ f. is_call f ≡ true) events
     calls = due_asked (λ f. is_call f ≡ true) (enquiring (picking id)) (λ ns f e. let is : IsCall f = asks_calls (device_of id) ns f e in is.called) [] events turns.going.each
@@ -244,7 +246,8 @@ module _ (id : List ℕ) (old new : Air Device) (r : Result Kind PollFault) (ide
           ∙ ends_lit (device_of id) old.lit kind turns.notes (sym well ∙ turns.comes)
 
       resting : Each (λ c. is_rest c.front ≡ true) (cards_of found.before ++ cards_of found.behind)
-      resting = let P : List Card → Type 0 = λ cs. Each (λ c. is_rest c.front ≡ true) cs in subst (λ b. P (cards_of found.before ++ b)) (sym found.later) (subst (λ a. P (a ++ leaves.1)) (sym found.first) leaves.3)
+      resting = let P : List Card → Type 0 = λ cs. Each (λ c. is_rest c.front ≡ true) cs in subst (λ b. P (cards_of found.before ++ b)) (sym found.later)
+          (subst (λ a. P (a ++ leaves.1)) (sym found.first) leaves.3)
 
       not_starved : Ok kind ≡ Err faults.Memory → ⊥
       not_starved e = cc
@@ -272,8 +275,10 @@ module _ (id : List ℕ) (old new : Air Device) (r : Result Kind PollFault) (ide
         sound = sound_amid found.before found.device found.behind sound;
         selected = right.1;
         unasked = unasked found.device (unlinked_amid found.before found.device found.behind (subst AreUnlinked found.split unlinked));
-        first = all_aside (device_id found.device) found.before (each_front (λ c. is_rest c.front ≡ true) (cards_of found.before) (cards_of found.behind) resting) (others_before found.before found.device found.behind sound);
-        later = all_aside (device_id found.device) found.behind (each_back (λ c. is_rest c.front ≡ true) (cards_of found.before) (cards_of found.behind) resting) (others_behind found.before found.device found.behind sound);
+        first = all_aside (device_id found.device) found.before (each_front (λ c. is_rest c.front ≡ true) (cards_of found.before) (cards_of found.behind) resting)
+            (others_before found.before found.device found.behind sound);
+        later = all_aside (device_id found.device) found.behind (each_back (λ c. is_rest c.front ≡ true) (cards_of found.before) (cards_of found.behind) resting)
+            (others_behind found.before found.device found.behind sound);
       }
 
       -- it is selected, and stands at the place that was found

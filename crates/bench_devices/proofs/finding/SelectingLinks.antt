@@ -100,7 +100,8 @@ pub unlinked_behind : (id : List ℕ) (es : List Event) (w : World Device) → E
     → AreUnlinked (replay air w es).listeners
 unlinked_behind id [] w q fresh some t = absurd (some refl)
 unlinked_behind id (Reset ∷ es) w q fresh some t =
-    let calls : EachAsked BeginsAsCalls (Reset ∷ es) = due_asked BeginsAsCalls (enquiring (picking id)) (λ ns f e. let is : IsCall f = asks_calls (device_of id) ns f e in is.begins) [] (Reset ∷ es) q in
+    let calls : EachAsked BeginsAsCalls (Reset ∷ es) = due_asked BeginsAsCalls (enquiring (picking id)) (λ ns f e. let is : IsCall f = asks_calls (device_of id) ns f e in is.begins) [] (Reset ∷ es)
+    q in
     events_unlinked es (reset_by devices w) calls (relit_unlinked w.listeners t)
 unlinked_behind id (Request f x ∷ es) w q fresh some t = absurd (light_is_no_request f q.0)
 unlinked_behind id (Answer g x ∷ es) w q fresh some t = absurd cc

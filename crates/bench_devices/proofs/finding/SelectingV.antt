@@ -1,5 +1,6 @@
 -- Selecting a Type 5 tag: a reset, and inventories of its identifier, which it alone answers.
-use Rattle.std.proofs.Common.{◌≡◌, ◌⊎◌, inl, inr, ℕ, zero, suc, ◌+◌, ◌<◌, ◌≤◌, nat_lt, nat_eq, List, [], ◌∷◌, ◌++◌, map, length, drop, filter_map, Bool, true, false, if◌then◌else◌, Option, Some, None, IsSome, Result, Ok, Err, refl, sym, ◌∙◌, ap, subst, append_assoc, arith}
+use Rattle.std.proofs.Common.{◌≡◌, ◌⊎◌, inl, inr, ℕ, zero, suc, ◌+◌, ◌<◌, ◌≤◌, nat_lt, nat_eq, List, [], ◌∷◌, ◌++◌, map, length, drop, filter_map, Bool, true, false, if◌then◌else◌, Option, Some, None}
+use Rattle.std.proofs.Common.{IsSome, Result, Ok, Err, refl, sym, ◌∙◌, ap, subst, append_assoc, arith}
 use Rattle.std.specs.List.{AllByRecursion, cons_option}
 use Rattle.std.specs.Cmp.Lexicographic.{pointwise}
 use Rattle.nfca_poll.proofs.quiet.OneLevel.{pointwise_self}
@@ -267,7 +268,8 @@ module _ (id : List ℕ) where
   own_answer : (p : Powered T5State) → IsSound (kept (T5 p)) → p.tag.id ≡ id → says (relit (T5 p)) ≡ Some (answer_frame (Present p.tag.id))
   own_answer p s named = ap (λ i. answered_by devices (relit (T5 p)) (inventory_of i) None) (sym named) ∙ answers_own (darkened p.tag) (state_of p s) refl
 
-  one_answer : (before : List Device) (d : Device) (behind : List Device) (g : Signal) → Each (λ l. says l ≡ None) (map relit before) → says (relit d) ≡ Some g → Each (λ l. says l ≡ None) (map relit behind)
+  one_answer : (before : List Device) (d : Device) (behind : List Device) (g : Signal) → Each (λ l. says l ≡ None) (map relit before) → says (relit d) ≡ Some g
+      → Each (λ l. says l ≡ None) (map relit behind)
       → answers_in (map relit (before ++ d ∷ behind)) ≡ g ∷ []
   one_answer [] d behind g h k j = ap (λ o. cons_option o (answers_in (map relit behind))) k ∙ ap (λ gs. g ∷ gs) (said_none says (map relit behind) j)
   one_answer (l ∷ ls) d behind g h k j = ap (λ o. cons_option o (answers_in (map relit (ls ++ d ∷ behind)))) h.0 ∙ one_answer ls d behind g h.1 k j
@@ -290,7 +292,8 @@ module _ (id : List ℕ) where
       record {
         answer = answer_frame (Present p.tag.id);
         one = ap (λ ds. answers_in (map relit ds)) a.split
-            ∙ one_answer a.before (T5 p) a.behind (answer_frame (Present p.tag.id)) (others_silent a.before (sound_front a.before (T5 p ∷ a.behind) sound) (absent_of a.before first)) (own_answer p own a.named)
+            ∙ one_answer a.before (T5 p) a.behind (answer_frame (Present p.tag.id)) (others_silent a.before (sound_front a.before (T5 p ∷ a.behind) sound) (absent_of a.before first))
+            (own_answer p own a.named)
             (others_silent a.behind around.2 (absent_of a.behind later));
         present = is_whole p.tag.id own.1;
       }
@@ -381,7 +384,6 @@ quiet id old new r turns = quietly (picking_v id) (asks_quietly id) old new r tu
 
 module _ (id : List ℕ) (eight : length id ≡ 8) (old mid new : Air Device) (r : Result (Unit {0}) PollFault) (tame : AreTame (map kept old.listeners))
     (reset : moment mid ≡ with_events air (moment old) (Reset ∷ [])) (turns : PollsQuietly (picking_v id) mid r new) where
-
   abbrev notes : List Note
   notes = turns.notes
 
@@ -398,7 +400,8 @@ module _ (id : List ℕ) (eight : length id ≡ 8) (old mid new : Air Device) (r
   begun = going_reset air (next id) (moment old) (moment old) (moment mid) [] (going_start air (next id) (moment old)) refl reset
 
   abbrev whole : Going air (next id) (moment old) (moment new) (Lit ∷ notes)
-  whole = going_then air (next id) (next id) (enquiring (picking_v id)) (moment old) (moment mid) (moment new) (Lit ∷ []) notes (λ ns n p d. p) (λ ns. kind_asks is_five (follows (picking_v id) ns) ∙ asks_same (picking_v id) (v_closes id) ns) begun turns.going
+  whole = going_then air (next id) (next id) (enquiring (picking_v id)) (moment old) (moment mid) (moment new) (Lit ∷ []) notes (λ ns n p d. p)
+      (λ ns. kind_asks is_five (follows (picking_v id) ns) ∙ asks_same (picking_v id) (v_closes id) ns) begun turns.going
 
   later_is : drop (length mid.trace) new.trace ≡ later
   later_is = events_are air (moment mid) (moment new) later turns.going.moment
@@ -528,7 +531,8 @@ module _ (id : List ℕ) (eight : length id ≡ 8) (old mid new : Air Device) (r
       lit_at_end : lit_by true notes ≡ true
       lit_at_end = by_progress (progress (picking_v id) (Tries 0 false) notes) refl (sym well ∙ turns.comes)
         where
-          by_progress : (p : Progress (Inventory (Unit {0}))) → progress (picking_v id) (Tries 0 false) notes ≡ p → Ok tt ≡ answer_of (picking_v id) (progress (picking_v id) (Tries 0 false) notes) → lit_by true notes ≡ true
+          by_progress : (p : Progress (Inventory (Unit {0}))) → progress (picking_v id) (Tries 0 false) notes ≡ p → Ok tt ≡ answer_of (picking_v id) (progress (picking_v id) (Tries 0 false) notes)
+              → lit_by true notes ≡ true
           by_progress (Reaches s) h e = stays_lit (picking_v id) (Tries 0 false) s notes h
           by_progress Loses h e = absurd (no_loss (progress (picking_v id) (Tries 0 false) notes) e (sym h))
 

@@ -1,5 +1,6 @@
 -- A search for Type 3 tags from a reset on: what it asks of the bench's devices, and what it tells of them.
-use Rattle.std.proofs.Common.{◌≡◌, ◌⊎◌, inl, inr, ℕ, ◌+◌, ◌≤◌, nat_lt, List, [], ◌∷◌, map, length, drop, filter_map, Bool, true, false, if◌then◌else◌, Option, Some, None, Result, Ok, Err, refl, sym, ◌∙◌, ap, subst}
+use Rattle.std.proofs.Common.{◌≡◌, ◌⊎◌, inl, inr, ℕ, ◌+◌, ◌≤◌, nat_lt, List, [], ◌∷◌, map, length, drop, filter_map, Bool, true, false, if◌then◌else◌, Option, Some, None, Result, Ok, Err, refl, sym}
+use Rattle.std.proofs.Common.{◌∙◌, ap, subst}
 use Rattle.nfc_base.specs.declared.event.Event.{Event}
 use Rattle.nfc_base.specs.declared.event.Event.TheVariants.{Reset}
 use Rattle.nfc_base.specs.declared.event.Heard.{Heard}
@@ -127,7 +128,8 @@ module _ (v : Fcrowd) where
   tries_come j t (Got Silent ∷ ns) n d h = tries_come j t ns (n + 1) d h.1
   tries_come j t (Lost ∷ ns) n d h = tt
 
-module _ (old mid new : Air Device) (r : Result Fcrowd PollFault) (tame : AreTame (map kept old.listeners)) (reset : moment mid ≡ with_events air (moment old) (Reset ∷ [])) (polls : PollsQuietly polling_f mid r new) where
+module _ (old mid new : Air Device) (r : Result Fcrowd PollFault) (tame : AreTame (map kept old.listeners)) (reset : moment mid ≡ with_events air (moment old) (Reset ∷ []))
+    (polls : PollsQuietly polling_f mid r new) where
   -- what is so of the devices
   abbrev so : Fcrowd
   so = sensed_of old.listeners
@@ -143,7 +145,8 @@ module _ (old mid new : Air Device) (r : Result Fcrowd PollFault) (tame : AreTam
   pub sensing_cut : AskedPart NoStore (λ ns. asks (sensing ns)) (moment old) (moment new)
   sensing_cut = cut polling_f sensing_closes senses_one senses_no_light old mid new r reset polls
 
-  module _ (lost : LosesByBreak mid r new) (by_turns : TellsPolledF (turns_since mid new) r) (why : Each (IsSteady devices sensf_req) mid.listeners → HasCausePresence all_sensed devices mid r new) where
+  module _ (lost : LosesByBreak mid r new) (by_turns : TellsPolledF (turns_since mid new) r)
+      (why : Each (IsSteady devices sensf_req) mid.listeners → HasCausePresence all_sensed devices mid r new) where
     abbrev events : List Event
     events = (whole polling_f sensing_closes senses_one senses_no_light old mid new r reset polls).events
 

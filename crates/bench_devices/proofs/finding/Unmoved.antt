@@ -141,7 +141,8 @@ module _ (f : Signal) (ls : List Device) (s : AllStay f ls) where
     heard_turn : (o : Option Heard) → turn_heard air w g x y ≡ o → g ≡ f → OnlyAsks f (behind w g x y ks) → AllHeard joint_in (note o ∷ receptions (behind w g x y ks))
     heard_turn None e same only = tt
     heard_turn (Some h) e same only =
-        let there : air.joint w g ≡ joint_in = ap (λ (k : Signal). joint (filter_map (λ l. answered_by devices l k None) w.listeners)) same ∙ ap (λ ds. joint (filter_map (λ l. answered_by devices l f None) ds)) at in
+        let there : air.joint w g ≡ joint_in = ap (λ (k : Signal). joint (filter_map (λ l. answered_by devices l k None) w.listeners)) same
+        ∙ ap (λ ds. joint (filter_map (λ l. answered_by devices l f None) ds)) at in
         let stay : AllStay g w.listeners = subst (λ k. AllStay k w.listeners) (sym same) (subst (AllStay f) (sym at) s) in
         (subst (λ j. HeardOf j h) there (heard_of_turn w g x y h e), more (turn_stays w g x y h e stay ∙ at) only)
 

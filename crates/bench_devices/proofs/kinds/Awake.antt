@@ -68,7 +68,8 @@ stay_awake (Clash g Lose ∷ es) w q b h = stay_awake es w q (omega (arith, b)) 
 stay_awake (Clash g Break ∷ es) w q b h = absurd (omega (arith, b))
 
 -- A search begins with a reset. Where it has lost no field, all are awake at its end.
-pub awake_behind : (es : List Event) (w : World Device) → EachDue (enquiring finding) [] es → back_of es ≡ backs.Nothing → breaks es ≡ 0 → (es ≡ [] → ⊥) → AllByRecursion IsAwake (over devices es w).listeners
+pub awake_behind : (es : List Event) (w : World Device) → EachDue (enquiring finding) [] es → back_of es ≡ backs.Nothing → breaks es ≡ 0 → (es ≡ [] → ⊥)
+    → AllByRecursion IsAwake (over devices es w).listeners
 awake_behind [] w q fresh b some = absurd (some refl)
 awake_behind (Reset ∷ es) w q fresh b some =
     let of_a = due_asked IsOfA (enquiring finding) (λ ns f e. let is : IsCall f = asks_calls all_devices ns f e in is.of_a) [] (Reset ∷ es) q in

@@ -1,6 +1,7 @@
 -- What events leave of the devices, whatever is sent: what is fixed of each stays, and its store is one of its kind still. A device
 -- that is aside keeps its store too.
-use Rattle.std.proofs.Common.{◌≡◌, ℕ, suc, ◌+◌, ◌*◌, ◌/◌, ◌<◌, ◌≤◌, List, [], ◌∷◌, ◌++◌, length, map, slice_index, Bool, true, false, nat_eq, if◌then◌else◌, Option, Some, None, refl, sym, ◌∙◌, ap, subst, arith}
+use Rattle.std.proofs.Common.{◌≡◌, ℕ, suc, ◌+◌, ◌*◌, ◌/◌, ◌<◌, ◌≤◌, List, [], ◌∷◌, ◌++◌, length, map, slice_index, Bool, true, false, nat_eq, if◌then◌else◌, Option, Some, None, refl, sym, ◌∙◌, ap}
+use Rattle.std.proofs.Common.{subst, arith}
 use Rattle.std.specs.List.{AllByRecursion}
 use Rattle.std.proofs.lemmas.List.{length-append}
 use Rattle.std.specs.Cmp.Lexicographic.{pointwise}
@@ -39,7 +40,8 @@ use Rattle.bench_devices.specs.declared.device.Device.{Device}
 use Rattle.bench_devices.specs.declared.device.Device.TheVariants.{T2, T4, Peer, T5, T3}
 use Rattle.bench_devices.specs.Device.{BenchWorld, air, devices, device_id, device_store, says_of, t2_machine, t4_machine}
 use Rattle.bench_devices.specs.Placed.{device_with, IfPlaced}
-use Rattle.bench_devices.specs.Keeping.{ghosts, Fixed, fixed, kept, IsSound, IsApart, AreSound, AreTame, StaysDevice, AllStayDevices, held_by, images_of, IsStoreOf, AreImages, DevicesStay, ImagesStay, AsideKeeps, Changes, NoStore, StoreOf, AllKeepBut, LeavesDevices, EachAsked, IsAsideOf}
+use Rattle.bench_devices.specs.Keeping.{ghosts, Fixed, fixed, kept, IsSound, IsApart, AreSound, AreTame, StaysDevice, AllStayDevices, held_by, images_of, IsStoreOf, AreImages, DevicesStay, ImagesStay}
+use Rattle.bench_devices.specs.Keeping.{AsideKeeps, Changes, NoStore, StoreOf, AllKeepBut, LeavesDevices, EachAsked, IsAsideOf}
 use Rattle.bench_devices.proofs.finding.SelectingKept.{due_asked, kept_dark, kept_lit}
 use Rattle.bench_devices.proofs.selected.CardKept.{IsAtRest, fixed_step, four_same, rest_keeps, rest_stays, dark_at_rest, lit_at_rest}
 use Rattle.t3t_tag.specs.Store.{T3State}
@@ -432,7 +434,8 @@ module _ (own : List ℕ) where
     then_beside : (w x : BenchWorld) (es : List Event) → Beside w x → AllKeepBut own x.listeners (replay air x es).listeners → AllKeepBut own w.listeners (replay air x es).listeners
     then_beside w x es p q = but_on w.listeners x.listeners (replay air x es).listeners p.kept q
 
-    pub others_keep : (w : BenchWorld) (es : List Event) → AllByRecursion (IsAsideOf own) w.listeners → EachAsked (MayAsk (plain_kind t) own) es → AllKeepBut own w.listeners (replay air w es).listeners
+    pub others_keep : (w : BenchWorld) (es : List Event) → AllByRecursion (IsAsideOf own) w.listeners → EachAsked (MayAsk (plain_kind t) own) es
+        → AllKeepBut own w.listeners (replay air w es).listeners
     others_keep w [] b h = but_same w.listeners
     others_keep w (Reset ∷ es) b h =
         let p : Beside w (air.happens w Reset) = by_change (λ l. devices.woken (devices.darkened l)) quiet_reset w (air.happens w Reset) b refl in
@@ -466,7 +469,8 @@ kept_but own (d ∷ ds) (e ∷ es) same =
     let one : kept e ≡ kept d = cc in
     (record { stays = kept_stays d e one; other = λ n. one }, kept_but own ds es (let rest : map kept es ≡ map kept ds = cc in rest))
 
-pub leaves_behind : (own : List ℕ) (w v u : BenchWorld) (es fs : List Event) → IsSoundOne own w.listeners → LeavesDevices NoStore w es v → LeavesDevices (StoreOf own) v fs u → LeavesDevices (StoreOf own) w (es ++ fs) u
+pub leaves_behind : (own : List ℕ) (w v u : BenchWorld) (es fs : List Event) → IsSoundOne own w.listeners → LeavesDevices NoStore w es v → LeavesDevices (StoreOf own) v fs u
+    → LeavesDevices (StoreOf own) w (es ++ fs) u
 leaves_behind own w v u es fs sound first next =
     (but_on own w.listeners v.listeners u.listeners (kept_but own w.listeners v.listeners first) next.0, images_sound w (es ++ fs) own sound)
 
@@ -498,6 +502,7 @@ pub leaves_more : (what : Changes) (w v : BenchWorld) (es : List Event) → IsSo
 leaves_more NoStore w v es sound first = first
 leaves_more (StoreOf id) w v es sound first = (kept_but id w.listeners v.listeners first, images_sound w es id sound)
 
-pub leaves_then : (what : Changes) (w v u : BenchWorld) (es fs : List Event) → IsSoundFor what w.listeners → LeavesDevices NoStore w es v → LeavesDevices what v fs u → LeavesDevices what w (es ++ fs) u
+pub leaves_then : (what : Changes) (w v u : BenchWorld) (es fs : List Event) → IsSoundFor what w.listeners → LeavesDevices NoStore w es v → LeavesDevices what v fs u
+    → LeavesDevices what w (es ++ fs) u
 leaves_then NoStore w v u es fs sound first next = next ∙ first
 leaves_then (StoreOf id) w v u es fs sound first next = leaves_behind id w v u es fs sound first next

@@ -31,7 +31,8 @@ held_at id [] n first = absurd first
 held_at id (d ∷ ds) zero first = ap (λ v. held_by (if v then Some d else device_with id ds)) (ap (λ i. pointwise nat_eq i id) first ∙ pointwise_self id)
 held_at id (d ∷ ds) (suc n) first = by_name (pointwise nat_eq (device_id d) id) refl (held_at id ds n first.1)
   where
-    by_name : (v : Bool) → pointwise nat_eq (device_id d) id ≡ v → held_by (device_with id ds) ≡ at_place device_store [] ds n → held_by (if v then Some d else device_with id ds) ≡ at_place device_store [] ds n
+    by_name : (v : Bool) → pointwise nat_eq (device_id d) id ≡ v → held_by (device_with id ds) ≡ at_place device_store [] ds n
+        → held_by (if v then Some d else device_with id ds) ≡ at_place device_store [] ds n
     by_name true e later = absurd (first.0 (equal_bytes (device_id d) id e))
     by_name false e later = later
 
@@ -70,7 +71,8 @@ held_kept id (d ∷ ds) [] same = absurd cc
 held_kept id (d ∷ ds) (e ∷ es) same =
     let one : kept e ≡ kept d = cc in
     let rest : map kept es ≡ map kept ds = cc in
-    ap (λ (k : Kept). held_by (if pointwise nat_eq k.fixed.id id then Some e else device_with id es)) one ∙ by_name (pointwise nat_eq (device_id d) id) (ap (λ (k : Kept). k.store) one) (held_kept id ds es rest)
+    ap (λ (k : Kept). held_by (if pointwise nat_eq k.fixed.id id then Some e else device_with id es)) one
+    ∙ by_name (pointwise nat_eq (device_id d) id) (ap (λ (k : Kept). k.store) one) (held_kept id ds es rest)
   where
     by_name : (v : Bool) → device_store e ≡ device_store d → held_by (device_with id es) ≡ held_by (device_with id ds)
         → held_by (if v then Some e else device_with id es) ≡ held_by (if v then Some d else device_with id ds)

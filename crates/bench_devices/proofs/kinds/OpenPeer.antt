@@ -1,6 +1,7 @@
 -- A peer of the bench that is selected takes ATR_REQ, which opens a link to it, and from then on each frame of an exchange: it does what
 -- its target's table says, and stays selected.
-use Rattle.std.proofs.Common.{◌≡◌, ◌==◌, ◌||◌, inl, inr, nat_lt, ℕ, zero, suc, ◌+◌, ◌-◌, ◌<◌, ◌≤◌, List, [], ◌∷◌, length, replicate, ◌++◌, Bool, true, false, if◌then◌else◌, Option, Some, None, refl, sym, ◌∙◌, ap, subst, arith}
+use Rattle.std.proofs.Common.{◌≡◌, ◌==◌, ◌||◌, inl, inr, nat_lt, ℕ, zero, suc, ◌+◌, ◌-◌, ◌<◌, ◌≤◌, List, [], ◌∷◌, length, replicate, ◌++◌, Bool, true, false, if◌then◌else◌, Option, Some, None, refl}
+use Rattle.std.proofs.Common.{sym, ◌∙◌, ap, subst, arith}
 use Rattle.std.specs.List.{AllByRecursion}
 use Rattle.std.proofs.lemmas.List.{length-append, length-replicate}
 use Rattle.nfc_base.specs.declared.frame.Tech.TheVariants.{A}
@@ -18,7 +19,8 @@ use Rattle.dep_link.specs.declared.target.TargetStep.{TargetStep}
 use Rattle.dep_link.specs.declared.target.TargetStep.TheVariants as steps
 use Rattle.dep_link.specs.Sizes.{limit}
 use Rattle.dep_link.specs.Frames.{after, names_atr, is_atr_req, spelled}
-use Rattle.dep_link.specs.Target.{TargetState, TargetTurn, TargetMove, Does, Stays, Answers, Begins, Delivers, Sleeps, Frees, again, repeated, grown, gathered, drawn, extended, heeded, framed, framed_does, target_table, fresh, darkened, made_busy, atr_res}
+use Rattle.dep_link.specs.Target.{TargetState, TargetTurn, TargetMove, Does, Stays, Answers, Begins, Delivers, Sleeps, Frees, again, repeated, grown, gathered, drawn, extended, heeded, framed}
+use Rattle.dep_link.specs.Target.{framed_does, target_table, fresh, darkened, made_busy, atr_res}
 use Rattle.dep_link.specs.laws.Moves.{SameSelf, same_self}
 use Rattle.dep_link.specs.laws.Delivering.{obeyed_same, then_same}
 use Rattle.dep_link.specs.Answering.{reply_for}

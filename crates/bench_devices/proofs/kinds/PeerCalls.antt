@@ -93,4 +93,5 @@ peer_free Sleep id u f h n = left_free peer_machine no_link peer_gives_up Sleep 
 peer_free (Ready k starred) id u f h n = left_free peer_machine no_link peer_gives_up (Ready k starred) (front_next (levels id) (Ready k starred) (call_of f)) u n
 peer_free (Active starred) id u f h n =
     let d : Fronted PeerNear = peered id (Active starred) u in
-    ap (λ (x : PeerDid). no_link (active_after peer_machine x.says x.after d f).upper) (foreign_peer u f None h n) ∙ left_free peer_machine no_link peer_gives_up (Active starred) (front_next (levels id) (Active starred) (call_of f)) u n
+    ap (λ (x : PeerDid). no_link (active_after peer_machine x.says x.after d f).upper) (foreign_peer u f None h n)
+    ∙ left_free peer_machine no_link peer_gives_up (Active starred) (front_next (levels id) (Active starred) (call_of f)) u n

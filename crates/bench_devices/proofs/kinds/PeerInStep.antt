@@ -36,11 +36,13 @@ heard_question : (t : TargetState) → t.mute ≡ false → answered_with (targe
 heard_question t heeds =
     let k : target_table t question ≡ framed (heeded t (Attention false)) = target_heeds t (Attention false) tt in
     ap (λ (x : TargetTurn). answered_with x.state [] x.does) k
-    ∙ ap (λ v. answered_with (framed (if v then stays t else record { state = t; does = Answers (Attention true) })).state [] (framed (if v then stays t else record { state = t; does = Answers (Attention true) })).does) heeds
+    ∙ ap (λ v. answered_with (framed (if v then stays t else record { state = t; does = Answers (Attention true) })).state []
+    (framed (if v then stays t else record { state = t; does = Answers (Attention true) })).does) heeds
 
 -- one without a link is silent
 silent_front : (id : List ℕ) (starred : Bool) (u : PeerNear) → u.linked ≡ false
-    → devices.answer (Peer (record { id = id; front = Active starred; upper = u })) question (reply_for [] (devices.handed (Peer (record { id = id; front = Active starred; upper = u })) question)) ≡ None
+    → devices.answer (Peer (record { id = id; front = Active starred; upper = u })) question (reply_for [] (devices.handed (Peer (record { id = id; front = Active starred; upper = u })) question))
+    ≡ None
 silent_front id starred u free =
     let d : Fronted PeerNear = record { id = id; front = Active starred; upper = u } in
     let other : (u.linked || is_atr_req question) ≡ false = ap (λ v. v || is_atr_req question) free ∙ ap names_atr (written_read (Attention false) tt) in

@@ -55,7 +55,8 @@ module _ (t : TargetState) where
   replied_made r = by_busy (nat_lt 0 t.busy)
     where
       by_busy : (v : Bool)
-          → darkened (if v then record t { last = Some (Extend true t.times); left = r; unsent = true; due = t.busy; followed = false } else record t { last = Some (first_piece t r); left = drop t.most r; unsent = nat_lt t.most (length r); due = 0; followed = false }) ≡ darkened t
+          → darkened (if v then record t { last = Some (Extend true t.times); left = r; unsent = true; due = t.busy; followed = false }
+          else record t { last = Some (first_piece t r); left = drop t.most r; unsent = nat_lt t.most (length r); due = 0; followed = false }) ≡ darkened t
       by_busy true = refl
       by_busy false = refl
 

@@ -1,5 +1,6 @@
 -- A Type 5 tag of the bench takes commands as they are sent.
-use Rattle.std.proofs.Common.{◌≡◌, inl, inr, ◌⊎◌, ℕ, ◌+◌, ◌*◌, ◌/◌, List, [], ◌∷◌, ◌++◌, length, drop, Bool, true, false, not, nat_le, ◌==◌, ◌&&◌, if◌then◌else◌, Option, Some, None, refl, sym, ◌∙◌, ap, subst}
+use Rattle.std.proofs.Common.{◌≡◌, inl, inr, ◌⊎◌, ℕ, ◌+◌, ◌*◌, ◌/◌, List, [], ◌∷◌, ◌++◌, length, drop, Bool, true, false, not, nat_le, ◌==◌, ◌&&◌, if◌then◌else◌, Option, Some, None, refl, sym, ◌∙◌}
+use Rattle.std.proofs.Common.{ap, subst}
 use Rattle.std.specs.Prelude.{reverse, get_or}
 use Rattle.nfc_base.specs.Blocks.{block_of}
 use Rattle.nfc_base.specs.Signal.{Signal}
@@ -10,7 +11,8 @@ use Rattle.t5t_tag.specs.declared.answer.T5Answer.{T5Answer}
 use Rattle.t5t_tag.specs.declared.answer.T5Answer.TheVariants.{Content, Error}
 use Rattle.t5t_tag.specs.Store.{T5State, id_size, blocks_in, block_count, is_locked}
 use Rattle.t5t_tag.specs.Spelling.{quiet_code, most_content}
-use Rattle.t5t_tag.specs.Step.{T5Turn, silent, tells, refuses, not_supported, no_block, block_locked, blocks_of, read_turn, read_many_turn, write_turn, Asked, Reads, ReadsMany, Writes, Unknown, asked, asked_turn, obeyed, names, addressed, out_of_round, t5_turn, sent, t5_answer, t5_after}
+use Rattle.t5t_tag.specs.Step.{T5Turn, silent, tells, refuses, not_supported, no_block, block_locked, blocks_of, read_turn, read_many_turn, write_turn, Asked, Reads, ReadsMany, Writes, Unknown, asked}
+use Rattle.t5t_tag.specs.Step.{asked_turn, obeyed, names, addressed, out_of_round, t5_turn, sent, t5_answer, t5_after}
 use Rattle.t5t_tag.proofs.Turns.{writes, hushes, on_obeyed}
 use Rattle.t5t_tag.proofs.Stores.{length_with_block}
 use Rattle.t5t_tag.proofs.Steps.{IsSameTag, same_tag, IsUntouched, read_leaves, read_many_leaves}

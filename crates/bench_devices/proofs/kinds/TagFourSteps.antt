@@ -37,7 +37,8 @@ answered_state : (s : CardState) (r : List ℕ) (P : CardState → Type 0) → P
     → P (record s { last = Some (piece s.most s.number r); left = drop s.most r; unsent = nat_lt s.most (length r); due = 0 }) → P (iso_dep.replied s r)
 answered_state s r P a b = go (nat_lt 0 s.busy)
   where
-    go : (v : Bool) → P (if v then record s { last = Some (Extend s.times); left = r; unsent = true; due = s.busy } else record s { last = Some (piece s.most s.number r); left = drop s.most r; unsent = nat_lt s.most (length r); due = 0 })
+    go : (v : Bool) → P (if v then record s { last = Some (Extend s.times); left = r; unsent = true; due = s.busy }
+        else record s { last = Some (piece s.most s.number r); left = drop s.most r; unsent = nat_lt s.most (length r); due = 0 })
     go true = a
     go false = b
 

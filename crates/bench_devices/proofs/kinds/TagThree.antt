@@ -6,7 +6,8 @@ use Rattle.nfc_base.specs.TagLinks.{Type3, plain_state, MayAsk}
 use Rattle.air_core.specs.PlainTags.{Takes, PassesOver, IsPlainTag}
 use Rattle.t3t_tag.specs.declared.answer.T3Answer.TheVariants.{Polled, UpdateRefused}
 use Rattle.t3t_tag.specs.Spelling.{poll_code, check_code, update_code, write_service, element_code, pair, is_whole_f}
-use Rattle.t3t_tag.specs.Step.{T3Turn, silent, tells, not_taken, no_block, block_locked, ndef_poll, any_poll, poll_turn, answers, check_answer, written_turn, update_turn, names, request_turn, bytes_turn, t3_turn, sent, t3_answer, t3_after}
+use Rattle.t3t_tag.specs.Step.{T3Turn, silent, tells, not_taken, no_block, block_locked, ndef_poll, any_poll, poll_turn, answers, check_answer, written_turn, update_turn, names, request_turn}
+use Rattle.t3t_tag.specs.Step.{bytes_turn, t3_turn, sent, t3_answer, t3_after}
 use Rattle.t3t_tag.specs.Store.{T3State, block_size, id_size, block_count, is_locked, rewritten}
 use Rattle.t3t_tag.proofs.Bytes.{equal_of}
 use Rattle.t3t_tag.proofs.Stores.{length_with_block, with_block_again}
@@ -55,7 +56,8 @@ module _ (block : ℕ) (content : List ℕ) (size : length content ≡ block_siz
       else writes s block content
 
   there_again : (t : T3State) (v w : Bool) → nat_le (block_count t.store) block ≡ v → is_locked t block ≡ w → IsAgain there_turn t
-  there_again t true w e f = again_kept there_turn t (ap (λ v. (if v then tells t (UpdateRefused t.id no_block) else if is_locked t block then tells t (UpdateRefused t.id block_locked) else writes t block content).after) e)
+  there_again t true w e f =
+      again_kept there_turn t (ap (λ v. (if v then tells t (UpdateRefused t.id no_block) else if is_locked t block then tells t (UpdateRefused t.id block_locked) else writes t block content).after) e)
   there_again t false true e f =
       again_kept there_turn t
       (ap (λ v. (if v then tells t (UpdateRefused t.id no_block) else if is_locked t block then tells t (UpdateRefused t.id block_locked) else writes t block content).after) e

@@ -14,7 +14,8 @@ use Rattle.t5t_tag.specs.Spelling.{quiet_code, read_code, read_many_code, read_w
 use Rattle.t5t_tag.specs.Mask as t5_mask
 use Rattle.t5t_tag.specs.declared.command.T5Command.TheVariants as t5_command
 use Rattle.t5t_tag.specs.declared.answer.T5Answer.TheVariants.{Content}
-use Rattle.t5t_tag.specs.Step.{silent, tells, refuses, not_supported, no_block, blocks_of, read_turn, read_many_turn, wide_number, Asked, Reads, ReadsMany, Unknown, asked_turn, obeyed, names, addressed, out_of_round, t5_after}
+use Rattle.t5t_tag.specs.Step.{silent, tells, refuses, not_supported, no_block, blocks_of, read_turn, read_many_turn, wide_number, Asked, Reads, ReadsMany, Unknown, asked_turn, obeyed, names}
+use Rattle.t5t_tag.specs.Step.{addressed, out_of_round, t5_after}
 use Rattle.tag_reader.specs.declared.ask.Ask.{Ask}
 use Rattle.tag_reader.specs.declared.ask.Ask.TheVariants.{One, Many}
 use Rattle.tag_reader.specs.Blocks.{ask_frame, ask_at, progress_at}
@@ -74,7 +75,8 @@ wide_leaves t (a ∷ b ∷ rest) = leaves_pair t (length rest == 0) (Reads (wide
 read_addressed : (t : T5State) (code : ℕ) (rest : List ℕ) → (code == quiet_code) ≡ false → ((xs : List ℕ) → (obeyed t code xs).after ≡ t) → (addressed t (code ∷ rest)).after ≡ t
 read_addressed t code rest other leaves = by_names (names t rest)
   where
-    by_names : (v : Bool) → (if not v then silent t else if (code == quiet_code) && (length rest == id_size) then record { answer = None; after = record t { quiet = true } } else obeyed t code (drop id_size rest)).after ≡ t
+    by_names : (v : Bool) → (if not v then silent t else if (code == quiet_code) && (length rest == id_size) then record { answer = None; after = record t { quiet = true } }
+        else obeyed t code (drop id_size rest)).after ≡ t
     by_names true = rw other (leaves (drop id_size rest))
     by_names false = refl
 

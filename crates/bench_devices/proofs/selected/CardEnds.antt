@@ -73,7 +73,8 @@ module _ {X : Type 0} (what : Changes) (IsAll : List Signal → Type 0) (Shows :
   abbrev asked_front_of : (rest : List Signal) → Going air (iso_next p.reader (bytes_of (m.asks.asked ++ rest))) (moment p.air) (moment q.air) m.asks.notes
   asked_front_of rest =
       let front : EachDue (iso_next p.reader (bytes_of m.asks.asked ++ bytes_of rest)) [] m.asks.going.events =
-      due_weaker (iso_next p.reader (bytes_of m.asks.asked ++ bytes_of rest)) (iso_next p.reader (bytes_of m.asks.asked)) (λ ns n e due. due_front p.reader (bytes_of m.asks.asked) (bytes_of rest) ns n e due)
+      due_weaker (iso_next p.reader (bytes_of m.asks.asked ++ bytes_of rest)) (iso_next p.reader (bytes_of m.asks.asked))
+      (λ ns n e due. due_front p.reader (bytes_of m.asks.asked) (bytes_of rest) ns n e due)
       [] m.asks.going.events m.asks.going.each in
       record {
         events = m.asks.going.events;

@@ -161,7 +161,8 @@ module _ (commands : List (List ℕ)) (place : ℕ) (b c : Moment BenchWorld) (n
   loud : ((a : Signal) → h ≡ Some (Whole a) → ⊥) → ⊥
   loud never =
       let some : 0 < noise (x.since ++ es) =
-      noisy ghosts laws device_card device_tag tag_holds x.tag.listener x.tag.is x.first x.done x.arrived x.command x.old (field_of b) place x.reader x.frame frame_bytes x.on zero zero (field_of c) h quiet never
+      noisy ghosts laws device_card device_tag tag_holds x.tag.listener x.tag.is x.first x.done x.arrived x.command x.old (field_of b) place x.reader x.frame frame_bytes x.on zero zero (field_of c) h
+      quiet never
       (x.since ++ es) trace_then in
       omega (arith, some, calm_then)
 
@@ -182,12 +183,14 @@ module _ (commands : List (List ℕ)) (place : ℕ) (b c : Moment BenchWorld) (n
 
     after : At (field_of c) now (stage_of (reader_does (reader_table x.reader (Whole a)).does)) (exchange.goes_by now (reader_table x.reader (Whole a)).does [])
     after =
-        turn_on ghosts laws device_card device_tag tag_holds x.tag.listener x.tag.is x.first x.done x.arrived x.command x.old (field_of b) place x.reader x.frame frame_bytes x.on zero zero (field_of c) (Whole a) heard_turn
+        turn_on ghosts laws device_card device_tag tag_holds x.tag.listener x.tag.is x.first x.done x.arrived x.command x.old (field_of b) place x.reader x.frame frame_bytes x.on zero zero
+        (field_of c) (Whole a) heard_turn
 
     lit_then : c.world.lit ≡ true
     lit_then = after.lit ∙ sym x.on.lit ∙ turn.lit
 
-    stands_then : (ms : List Note) → card_stand commands (Activates zero) ((ns ++ Got (Whole a) ∷ []) ++ ms) ≡ Exchanges (exchange.stand (exchange.goes_by now (reader_table x.reader (Whole a)).does x.left) ms)
+    stands_then : (ms : List Note) → card_stand commands (Activates zero) ((ns ++ Got (Whole a) ∷ []) ++ ms)
+        ≡ Exchanges (exchange.stand (exchange.goes_by now (reader_table x.reader (Whole a)).does x.left) ms)
     stands_then ms = ap (card_stand commands (Activates zero)) (append_assoc ns (Got (Whole a) ∷ []) ms) ∙ x.stands (Got (Whole a) ∷ ms)
 
     on_then : (d : ReaderStep) → At (field_of c) now (stage_of (reader_does d)) (exchange.goes_by now d [])
@@ -212,10 +215,13 @@ module _ (commands : List (List ℕ)) (place : ℕ) (b c : Moment BenchWorld) (n
       stands = stands;
     })
     on_then (steps.Finished r) on stands =
-        let next = answered_asked ghosts laws device_card device_tag tag_holds x.tag.listener x.tag.is x.first x.done x.arrived x.command x.old (field_of c) place now r.items (exchange.Rests now) on lit_then in
+        let next = answered_asked ghosts laws device_card device_tag tag_holds x.tag.listener x.tag.is x.first x.done x.arrived x.command x.old (field_of c) place now r.items (exchange.Rests now) on
+        lit_then in
         next_command commands place c (ns ++ Got (Whole a) ∷ []) now _ _ x.left next.1 x.sent stands
-    on_then steps.SixBad on stands = inr (nothing_due commands (ns ++ Got (Whole a) ∷ []) (Exchanges (exchange.Broken asking.SixBad)) (λ ms. stands ms ∙ sym (exchanges_stand commands (exchange.Broken asking.SixBad) ms)) refl)
-    on_then steps.Protocol on stands = inr (nothing_due commands (ns ++ Got (Whole a) ∷ []) (Exchanges (exchange.Broken asking.Protocol)) (λ ms. stands ms ∙ sym (exchanges_stand commands (exchange.Broken asking.Protocol) ms)) refl)
+    on_then steps.SixBad on stands =
+        inr (nothing_due commands (ns ++ Got (Whole a) ∷ []) (Exchanges (exchange.Broken asking.SixBad)) (λ ms. stands ms ∙ sym (exchanges_stand commands (exchange.Broken asking.SixBad) ms)) refl)
+    on_then steps.Protocol on stands =
+        inr (nothing_due commands (ns ++ Got (Whole a) ∷ []) (Exchanges (exchange.Broken asking.Protocol)) (λ ms. stands ms ∙ sym (exchanges_stand commands (exchange.Broken asking.Protocol) ms)) refl)
 
   exchange_heard : CardHeard commands place c ns h
   exchange_heard =
@@ -257,7 +263,8 @@ module _ (commands : List (List ℕ)) (sent : AllByRecursion IsSent commands) (p
   after_rats : AfterRats (Some (Whole ats))
   after_rats =
       subst AfterRats rats_told
-      (rats_turn ghosts laws device_card device_tag tag_holds (field_of b) place t (field_of b) 0 (omega arith) (first_rats ghosts laws device_card device_tag tag_holds (field_of b) place t) zero zero (field_of c) h quiet_rats)
+      (rats_turn ghosts laws device_card device_tag tag_holds (field_of b) place t (field_of b) 0 (omega arith) (first_rats ghosts laws device_card device_tag tag_holds (field_of b) place t) zero zero
+      (field_of c) h quiet_rats)
 
   by_code : (o : Option ℕ) → ats_code ats ≡ o → CardGoes commands place c (Got (Whole ats) ∷ [])
   by_code None e = absurd (rats_never ghosts laws device_card device_tag tag_holds (field_of b) place t (field_of c) 0 ats after_rats e)

@@ -105,7 +105,8 @@ module _ {X : Type 0} (what : Changes) (IsAll : List Signal → Type 0) (Shows :
   AsksCardSome old new = AsksSome what IsAll card_next (λ cs ns. IsUnbrokenCard (card_stands cs ns)) old new
 
   -- so it asks the tag as it is seen
-  pub as_told : (old new : Moment (World Device)) (d : Device) (x : X) → how_of d ≡ hows.T4 → AsksCard old new x → AsksTag what IsAll (tag_next (seen_of d)) (TellsBy (seen_of d) Shows Fails) Fails old new x
+  pub as_told : (old new : Moment (World Device)) (d : Device) (x : X) → how_of d ≡ hows.T4 → AsksCard old new x
+      → AsksTag what IsAll (tag_next (seen_of d)) (TellsBy (seen_of d) Shows Fails) Fails old new x
   as_told old new (T2 d) x four s = absurd cc
   as_told old new (T4 d) x four s = record { commands = s.commands; asks = s.asks; asked = s.asked; ends = s.ends; lost = s.lost; noisy = s.noisy }
   as_told old new (Peer d) x four s = absurd cc
@@ -206,7 +207,8 @@ module _ {X : Type 0} (what : Changes) (IsAll : List Signal → Type 0) (Shows :
 
     -- The tag was activated, and commands were asked over its link: both are one command.
     module _ (new : Air Device) (code : ℕ) (sent : RatsSent ghosts device_card device_tag old mid (waits.Asking 0 [])) (tells : TellsCode sent.notes code) where
-      both_parts : (commands : List Signal) (ns : List Note) → Going air (iso_next (waiting code) (bytes_of commands)) (moment mid) (moment new) ns → Going air (card_next commands) (moment old) (moment new) (sent.notes ++ ns)
+      both_parts : (commands : List Signal) (ns : List Note) → Going air (iso_next (waiting code) (bytes_of commands)) (moment mid) (moment new) ns
+          → Going air (card_next commands) (moment old) (moment new) (sent.notes ++ ns)
       both_parts commands ns going =
           going_then air (card_next commands) (waits_next (rats ∷ [])) (iso_next (waiting code) (bytes_of commands)) (moment old) (moment mid) (moment new) sent.notes ns
           (λ ns n e due. rats_due (bytes_of commands) 0 ns n e due) (λ ns. ap card_due (rats_told (bytes_of commands) sent.notes ns code sent.stands tells)) sent.going going
@@ -222,7 +224,8 @@ module _ {X : Type 0} (what : Changes) (IsAll : List Signal → Type 0) (Shows :
           sym (events_are air (moment old) (moment new) both.events both.moment)
           ∙ events_are air (moment old) (moment new) (sent.going.events ++ going.events) (events_then going.events going.moment)
 
-      both_leave : (commands : List Signal) (ns : List Note) (going : Going air (iso_next (waiting code) (bytes_of commands)) (moment mid) (moment new) ns) → LeavesDevices what (world mid) going.events (world new)
+      both_leave : (commands : List Signal) (ns : List Note) (going : Going air (iso_next (waiting code) (bytes_of commands)) (moment mid) (moment new) ns)
+          → LeavesDevices what (world mid) going.events (world new)
           → LeavesDevices what (world old) (both_parts commands ns going).events (world new)
       both_leave commands ns going left =
           subst (λ es. LeavesDevices what (world old) es (world new)) (sym (events_both commands ns going))

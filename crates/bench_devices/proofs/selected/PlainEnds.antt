@@ -76,7 +76,8 @@ module _ {X : Type 0} (what : Changes) (IsAll : List Signal → Type 0) (Shows :
 
     -- the field was lost exactly where the waits ended so
     broken_by : 0 < breaks m.asked.going.events → EndsLost m.asked.commands m.asked.notes
-    broken_by some = lost_ends air m.asked.commands (moment a) (moment q.air) m.asked.notes m.asked.going (going_lost devices (waits_next m.asked.commands) (moment a) (moment q.air) m.asked.notes m.asked.going some)
+    broken_by some = lost_ends air m.asked.commands (moment a) (moment q.air) m.asked.notes m.asked.going
+        (going_lost devices (waits_next m.asked.commands) (moment a) (moment q.air) m.asked.notes m.asked.going some)
 
     some_break : q.air.lit ≡ false → 0 < breaks m.asked.going.events
     some_break dim = elim (cases_lt 0 (breaks m.asked.going.events)) [

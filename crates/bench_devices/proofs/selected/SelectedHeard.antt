@@ -122,10 +122,12 @@ selected_v : (id : List ℕ) (a mid b : Moment BenchWorld) (hs : List Note) (x :
 selected_v id a mid b hs x eight tame reset p told =
     let turns : PollsQuietly (picking_v id) (field_of mid) (Ok x) (field_of b) =
     record { notes = hs; going = p.going; comes = came (picking_v id) (picking_v id).start ((picking_v id).ended (picking_v id).start) hs x refl told } in
-    let some = v_kind.placed id eight (field_of a) (field_of mid) (field_of b) (Ok x) tame reset turns (λ e. absurd cc) (λ steady. record { not_found = λ e. absurd cc; bad = λ e well. absurd cc }) refl in
+    let some = v_kind.placed id eight (field_of a) (field_of mid) (field_of b) (Ok x) tame reset turns (λ e. absurd cc) (λ steady. record { not_found = λ e. absurd cc; bad = λ e well. absurd cc })
+    refl in
     let at = at_first id b.world.listeners some in
     let s : SelectsAt (ids.V id) at.0 a b =
-    v_kind.selects_at id eight (field_of a) (field_of mid) (field_of b) (Ok x) tame reset turns (λ e. absurd cc) (λ steady. record { not_found = λ e. absurd cc; bad = λ e well. absurd cc }) refl at.0 at.1 in
+    v_kind.selects_at id eight (field_of a) (field_of mid) (field_of b) (Ok x) tame reset turns (λ e. absurd cc) (λ steady. record { not_found = λ e. absurd cc; bad = λ e well. absurd cc }) refl at.0
+    at.1 in
     record {
       place = at.0;
       device = s.device;
@@ -180,7 +182,8 @@ module _ (asked : List Signal) (a : Moment BenchWorld) (tame : AreTame (map kept
   due_behind : (id : DeviceId) (b : Moment BenchWorld) (hs : List Note) (x : Behind id b hs) → tag_due id asked hs ≡ tag_next x.kind asked x.since
   due_behind id b hs x = ap (tag_due id asked) x.is ∙ ap (then_asks asked) (x.told x.since)
 
-  turn_behind : (id : DeviceId) (b c : Moment BenchWorld) (hs : List Note) (f : Signal) (h : Option Heard) → Behind id b hs → Passing b.queue → tag_due id asked hs ≡ Asks f → TurnsTo air b c f h → Behind id c (hs ++ note h ∷ [])
+  turn_behind : (id : DeviceId) (b c : Moment BenchWorld) (hs : List Note) (f : Signal) (h : Option Heard) → Behind id b hs → Passing b.queue → tag_due id asked hs ≡ Asks f → TurnsTo air b c f h
+      → Behind id c (hs ++ note h ∷ [])
   turn_behind id b c hs f h x calm due turn =
       let r : TagHeard asked x.kind c x.since h = tag_heard asked x.kind b c x.since f h x.goes calm (sym (due_behind id b hs x) ∙ due) turn in
       let B : Option Heard → Type 0 = λ o. Behind id c (hs ++ note o ∷ []) in
@@ -194,7 +197,8 @@ module _ (asked : List Signal) (a : Moment BenchWorld) (tame : AreTame (map kept
         goes = r.goes;
       })
 
-  enters : (id : DeviceId) → Heed id → (b : Moment BenchWorld) (hs : List Note) (kind : SeenKind) → Selected id a b kind → ((ms : List Note) → selecting id (hs ++ ms) ≡ Told (Ok kind) ms) → Behind id b hs
+  enters : (id : DeviceId) → Heed id → (b : Moment BenchWorld) (hs : List Note) (kind : SeenKind) → Selected id a b kind → ((ms : List Note) → selecting id (hs ++ ms) ≡ Told (Ok kind) ms)
+      → Behind id b hs
   enters id heed b hs kind s told =
       let split : map kept a.world.listeners ≡ map kept s.stands.before ++ kept s.device ∷ map kept s.stands.behind =
       sym s.same ∙ ap (λ (w : BenchWorld). map kept w.listeners) s.stands.world ∙ map-append kept s.stands.before (s.device ∷ s.stands.behind) in
@@ -210,7 +214,8 @@ module _ (asked : List Signal) (a : Moment BenchWorld) (tame : AreTame (map kept
       }
 
   -- a selection of an NFC-A device that is told
-  enters_a : (i : List ℕ) → IsIdent i → Heed (ids.A i) → (b : Moment BenchWorld) (hs : List Note) (kind : Kind) (ns : List Note) → Polls (picking i) air a b hs → follows (picking i) hs ≡ Told (Ok kind) ns → Behind (ids.A i) b hs
+  enters_a : (i : List ℕ) → IsIdent i → Heed (ids.A i) → (b : Moment BenchWorld) (hs : List Note) (kind : Kind) (ns : List Note) → Polls (picking i) air a b hs
+      → follows (picking i) hs ≡ Told (Ok kind) ns → Behind (ids.A i) b hs
   enters_a i ident heed b hs kind ns p at =
       let none : ns ≡ [] = subst IsFresh at p.fresh in
       let told : follows (picking i) hs ≡ Told (Ok kind) [] = at ∙ ap (λ ks. Told (Ok kind) ks) none in
@@ -239,7 +244,8 @@ module _ (asked : List Signal) (a : Moment BenchWorld) (tame : AreTame (map kept
       absurd (let clash : Over ≡ Asks f = over in cc)
 
   poll_turn_v : (i : List ℕ) → length i ≡ 8 → Heed (ids.V i) → (b c mid : Moment BenchWorld) (hs ks : List Note) (f : Signal) (h : Option Heard) → mid ≡ with_events air a (Reset ∷ []) → hs ≡ Lit ∷ ks
-      → Polls (picking_v i) air mid b ks → Passing b.queue → tag_due (ids.V i) asked hs ≡ Asks f → TurnsTo air b c f h → (p : Followed (Unit {0})) → follows (picking_v i) ks ≡ p → Course (ids.V i) c (hs ++ note h ∷ [])
+      → Polls (picking_v i) air mid b ks → Passing b.queue → tag_due (ids.V i) asked hs ≡ Asks f → TurnsTo air b c f h → (p : Followed (Unit {0})) → follows (picking_v i) ks ≡ p
+      → Course (ids.V i) c (hs ++ note h ∷ [])
   poll_turn_v i eight heed b c mid hs ks f h reset is x calm due turn (polls.Asks n) at =
       let here : n ≡ Asks f = sym (ap (λ q. then_asks asked (kind_by (λ y. seen.T5) q)) at) ∙ sym (ap (tag_due (ids.V i) asked) is) ∙ due in
       inl (inr (mid, ks ++ note h ∷ [], reset, ap (λ t. t ++ note h ∷ []) is, poll_turn (picking_v i) air (v_closes i) mid b c ks f h n x at here turn))
@@ -248,7 +254,8 @@ module _ (asked : List Signal) (a : Moment BenchWorld) (tame : AreTame (map kept
       let over : Over ≡ Asks f = sym (ap (λ q. then_asks asked (kind_by (λ y. seen.T5) q)) at) ∙ sym (ap (tag_due (ids.V i) asked) is) ∙ due in
       absurd (let clash : Over ≡ Asks f = over in cc)
 
-  turns : (id : DeviceId) → IsId id → Heed id → (b c : Moment BenchWorld) (hs : List Note) (f : Signal) (h : Option Heard) → Course id b hs → Passing b.queue → tag_due id asked hs ≡ Asks f → TurnsTo air b c f h
+  turns : (id : DeviceId) → IsId id → Heed id → (b c : Moment BenchWorld) (hs : List Note) (f : Signal) (h : Option Heard) → Course id b hs → Passing b.queue → tag_due id asked hs ≡ Asks f
+      → TurnsTo air b c f h
       → Course id c (hs ++ note h ∷ [])
   turns id is heed b c hs f h (inr x) calm due turn = inr (turn_behind id b c hs f h x calm due turn)
   turns (ids.A i) is heed b c hs f h (inl x) calm due turn = poll_turn_a i is heed b c hs f h x calm due turn (follows (picking i) hs) refl
@@ -256,7 +263,8 @@ module _ (asked : List Signal) (a : Moment BenchWorld) (tame : AreTame (map kept
   turns (ids.V i) is heed b c hs f h (inl (inr x)) calm due turn = poll_turn_v i is heed b c x.0 hs x.1 f h x.2 x.3 x.4 calm due turn (follows (picking_v i) x.1) refl
 
   -- a reset
-  poll_lit_a : (i : List ℕ) (b c : Moment BenchWorld) (hs : List Note) → Polls (picking i) air a b hs → tag_due (ids.A i) asked hs ≡ LightUp → c ≡ with_events air b (Reset ∷ []) → (p : Followed Kind) → follows (picking i) hs ≡ p
+  poll_lit_a : (i : List ℕ) (b c : Moment BenchWorld) (hs : List Note) → Polls (picking i) air a b hs → tag_due (ids.A i) asked hs ≡ LightUp → c ≡ with_events air b (Reset ∷ []) → (p : Followed Kind)
+      → follows (picking i) hs ≡ p
       → Course (ids.A i) c (hs ++ Lit ∷ [])
   poll_lit_a i b c hs x due reset (polls.Asks n) at =
       inl (poll_lit (picking i) air (search_closes (device_of i)) a b c hs n x at (sym (ap (λ q. then_asks asked (kind_by seen_kind q)) at) ∙ due) reset)
@@ -265,7 +273,8 @@ module _ (asked : List Signal) (a : Moment BenchWorld) (tame : AreTame (map kept
       let over : Over ≡ LightUp = sym (ap (λ q. then_asks asked (kind_by seen_kind q)) at) ∙ due in
       absurd (let clash : Over ≡ LightUp = over in cc)
 
-  poll_lit_v : (i : List ℕ) (b c mid : Moment BenchWorld) (hs ks : List Note) → mid ≡ with_events air a (Reset ∷ []) → hs ≡ Lit ∷ ks → Polls (picking_v i) air mid b ks → tag_due (ids.V i) asked hs ≡ LightUp
+  poll_lit_v : (i : List ℕ) (b c mid : Moment BenchWorld) (hs ks : List Note) → mid ≡ with_events air a (Reset ∷ []) → hs ≡ Lit ∷ ks → Polls (picking_v i) air mid b ks
+      → tag_due (ids.V i) asked hs ≡ LightUp
       → c ≡ with_events air b (Reset ∷ []) → (p : Followed (Unit {0})) → follows (picking_v i) ks ≡ p → Course (ids.V i) c (hs ++ Lit ∷ [])
   poll_lit_v i b c mid hs ks start is x due reset (polls.Asks n) at =
       let here : n ≡ LightUp = sym (ap (λ q. then_asks asked (kind_by (λ y. seen.T5) q)) at) ∙ sym (ap (tag_due (ids.V i) asked) is) ∙ due in

@@ -25,7 +25,8 @@ selecting_harmless (A id) ns f e = asks_harmless (device_of id) ns f (sym (kind_
 selecting_harmless (V id) ns f e = next_asked id ns f e
 
 -- The device holds at first what it holds once it is selected, and so the law holds from there on.
-pub law_selected : (id : DeviceId) (old new : Moment BenchWorld) (ns : List Note) (g : Going air (λ ks. asks (selecting id ks)) old new ns) (message : List ℕ) (d : Device) (ending : Ending) (es : List Event)
+pub law_selected : (id : DeviceId) (old new : Moment BenchWorld) (ns : List Note) (g : Going air (λ ks. asks (selecting id ks)) old new ns) (message : List ℕ) (d : Device) (ending : Ending)
+    (es : List Event)
     → held_by (device_with (device_id d) new.world.listeners) ≡ device_store d → KeepsWriteLaw message d ending new.world es → KeepsWriteLaw message d ending old.world (g.events ++ es)
 law_selected id old new ns g message d ending es holds law =
     let replayed : new.world ≡ replay air old.world g.events = ap (λ (t : Moment BenchWorld). t.world) g.moment in

@@ -63,7 +63,8 @@ pub record TagHeard (asked : List Signal) (kind : SeenKind) (c : Moment BenchWor
   pub goes : TagGoes asked kind c (ns ++ Got (Whole answer) ∷ [])
 
 plain_heard : (asked : List Signal) (kind : SeenKind) (b c : Moment BenchWorld) (ns : List Note) (f : Signal) (h : Option Heard) (x : PlainGoes asked kind b ns) → Passing b.queue
-    → (left : List Signal) → AllByRecursion (IsHeeded x.how) left → ((ms : List Note) → tag_next kind asked (ns ++ ms) ≡ waits_next left ms) → tag_next kind asked ns ≡ Asks f → TurnsTo air b c f h → TagHeard asked kind c ns h
+    → (left : List Signal) → AllByRecursion (IsHeeded x.how) left → ((ms : List Note) → tag_next kind asked (ns ++ ms) ≡ waits_next left ms) → tag_next kind asked ns ≡ Asks f → TurnsTo air b c f h
+    → TagHeard asked kind c ns h
 plain_heard asked kind b c ns f h x calm [] heeded next due turn =
     let over : Over ≡ Asks f = sym (ap (tag_next kind asked) (sym (append-nil ns)) ∙ next []) ∙ due in
     absurd (let clash : Over ≡ Asks f = over in cc)
@@ -115,7 +116,8 @@ all_sent : (asked : List Signal) → AllByRecursion (IsHeeded hows.T4) asked →
 all_sent [] h = tt
 all_sent (f ∷ fs) h = (h.0, all_sent fs h.1)
 
-pub begins_heard : (asked : List Signal) (b : Moment BenchWorld) (place : ℕ) (d : Device) → Stands b place d → may_be_found d ≡ true → AllByRecursion (IsHeeded (how_of d)) asked → TagGoes asked (seen_of d) b []
+pub begins_heard : (asked : List Signal) (b : Moment BenchWorld) (place : ℕ) (d : Device) → Stands b place d → may_be_found d ≡ true → AllByRecursion (IsHeeded (how_of d)) asked
+    → TagGoes asked (seen_of d) b []
 begins_heard asked b place (T2 d) s found heeded = inl (record {
   how = hows.T2;
   own = d.id;

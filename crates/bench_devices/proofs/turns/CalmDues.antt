@@ -63,7 +63,8 @@ call_other : (f : Signal) → IsCall f → IsOther f
 call_other f is = no_atr_req f is.begins
 
 -- a search of all devices
-find_by : (p : Followed (List Picked)) (f : Signal) → (asks p ≡ Asks f → IsOther f) → ((ks : List Note) → asks (follows inventory ks) ≡ Asks f → IsOther f) → asks (then_inventory p) ≡ Asks f → IsOther f
+find_by : (p : Followed (List Picked)) (f : Signal) → (asks p ≡ Asks f → IsOther f) → ((ks : List Note) → asks (follows inventory ks) ≡ Asks f → IsOther f) → asks (then_inventory p) ≡ Asks f
+    → IsOther f
 find_by (polls.Asks n) f first later e = first e
 find_by (Told (Ok cards) ks) f first later e = later ks (sym (others_ask cards (follows inventory ks)) ∙ e)
 find_by (Told (Err x) ks) f first later e = absurd (over_is_no_request f e)

@@ -29,10 +29,12 @@ IsOne is_one f = is_one f ≡ true
 abbrev of_turn : (Signal → Bool) → Turn → ℕ
 of_turn is_one t = if is_noisy t && is_one t.request then 1 else 0
 
-count_first : (is_one : Signal → Bool) (t : Turn) (ts : List Turn) → length (filter (λ u. is_noisy u && is_one u.request) (t ∷ ts)) ≡ of_turn is_one t + length (filter (λ u. is_noisy u && is_one u.request) ts)
+count_first : (is_one : Signal → Bool) (t : Turn) (ts : List Turn) → length (filter (λ u. is_noisy u && is_one u.request) (t ∷ ts))
+    ≡ of_turn is_one t + length (filter (λ u. is_noisy u && is_one u.request) ts)
 count_first is_one t ts = by_one (is_noisy t && is_one t.request)
   where
-    by_one : (v : Bool) → length (if v then t ∷ filter (λ u. is_noisy u && is_one u.request) ts else filter (λ u. is_noisy u && is_one u.request) ts) ≡ (if v then 1 else 0) + length (filter (λ u. is_noisy u && is_one u.request) ts)
+    by_one : (v : Bool) → length (if v then t ∷ filter (λ u. is_noisy u && is_one u.request) ts else filter (λ u. is_noisy u && is_one u.request) ts)
+        ≡ (if v then 1 else 0) + length (filter (λ u. is_noisy u && is_one u.request) ts)
     by_one true = omega arith
     by_one false = omega arith
 
@@ -45,23 +47,32 @@ module _ (is_one : Signal → Bool) where
     joint_count : (f : Signal) (j : Joint) (y : Fate) (t : List Event) → is_one f ≡ true → back_of t ≡ backs.Nothing → noise t ≡ noisy_turns is_one t
         → noise (Request f Pass ∷ joint_events j y ++ t) ≡ noisy_turns is_one (Request f Pass ∷ joint_events j y ++ t)
     joint_count f Nothing y t one fresh same =
-        plus_none (noise t) ∙ same ∙ sym (plus_none (noisy_turns is_one t)) ∙ sym (count_first is_one (record { request = f; fate = Pass; back = back_of t }) (turns t) ∙ ap (λ b. of_turn is_one (record { request = f; fate = Pass; back = b }) + noisy_turns is_one t) fresh)
+        plus_none (noise t) ∙ same ∙ sym (plus_none (noisy_turns is_one t)) ∙ sym (count_first is_one (record { request = f; fate = Pass; back = back_of t }) (turns t)
+        ∙ ap (λ b. of_turn is_one (record { request = f; fate = Pass; back = b }) + noisy_turns is_one t) fresh)
     joint_count f (Single g) y t one fresh same = plus_none (other_than_pass y + noise t) ∙ joint_single f g y t one same
       where
-        joint_single : (f g : Signal) (y : Fate) (t : List Event) → is_one f ≡ true → noise t ≡ noisy_turns is_one t → other_than_pass y + noise t ≡ noisy_turns is_one (Request f Pass ∷ Answer g y ∷ t)
+        joint_single : (f g : Signal) (y : Fate) (t : List Event) → is_one f ≡ true → noise t ≡ noisy_turns is_one t
+            → other_than_pass y + noise t ≡ noisy_turns is_one (Request f Pass ∷ Answer g y ∷ t)
         joint_single f g Pass t one same = plus_none (noise t) ∙ same
-        joint_single f g Damage t one same = ap (λ n. 1 + n) same ∙ sym (count_first is_one (record { request = f; fate = Pass; back = backs.Single g Damage }) (turns t) ∙ ap (λ v. (if v then 1 else 0) + noisy_turns is_one t) one)
-        joint_single f g Lose t one same = ap (λ n. 1 + n) same ∙ sym (count_first is_one (record { request = f; fate = Pass; back = backs.Single g Lose }) (turns t) ∙ ap (λ v. (if v then 1 else 0) + noisy_turns is_one t) one)
-        joint_single f g Break t one same = ap (λ n. 1 + n) same ∙ sym (count_first is_one (record { request = f; fate = Pass; back = backs.Single g Break }) (turns t) ∙ ap (λ v. (if v then 1 else 0) + noisy_turns is_one t) one)
+        joint_single f g Damage t one same =
+            ap (λ n. 1 + n) same ∙ sym (count_first is_one (record { request = f; fate = Pass; back = backs.Single g Damage }) (turns t) ∙ ap (λ v. (if v then 1 else 0) + noisy_turns is_one t) one)
+        joint_single f g Lose t one same =
+            ap (λ n. 1 + n) same ∙ sym (count_first is_one (record { request = f; fate = Pass; back = backs.Single g Lose }) (turns t) ∙ ap (λ v. (if v then 1 else 0) + noisy_turns is_one t) one)
+        joint_single f g Break t one same =
+            ap (λ n. 1 + n) same ∙ sym (count_first is_one (record { request = f; fate = Pass; back = backs.Single g Break }) (turns t) ∙ ap (λ v. (if v then 1 else 0) + noisy_turns is_one t) one)
     joint_count f (Clashing g) y t one fresh same = plus_none (other_than_pass y + noise t) ∙ joint_clash f g y t one same
       where
         joint_clash : (f g : Signal) (y : Fate) (t : List Event) → is_one f ≡ true → noise t ≡ noisy_turns is_one t → other_than_pass y + noise t ≡ noisy_turns is_one (Request f Pass ∷ Clash g y ∷ t)
         joint_clash f g Pass t one same = plus_none (noise t) ∙ same
-        joint_clash f g Damage t one same = ap (λ n. 1 + n) same ∙ sym (count_first is_one (record { request = f; fate = Pass; back = backs.Clashing g Damage }) (turns t) ∙ ap (λ v. (if v then 1 else 0) + noisy_turns is_one t) one)
-        joint_clash f g Lose t one same = ap (λ n. 1 + n) same ∙ sym (count_first is_one (record { request = f; fate = Pass; back = backs.Clashing g Lose }) (turns t) ∙ ap (λ v. (if v then 1 else 0) + noisy_turns is_one t) one)
-        joint_clash f g Break t one same = ap (λ n. 1 + n) same ∙ sym (count_first is_one (record { request = f; fate = Pass; back = backs.Clashing g Break }) (turns t) ∙ ap (λ v. (if v then 1 else 0) + noisy_turns is_one t) one)
+        joint_clash f g Damage t one same =
+            ap (λ n. 1 + n) same ∙ sym (count_first is_one (record { request = f; fate = Pass; back = backs.Clashing g Damage }) (turns t) ∙ ap (λ v. (if v then 1 else 0) + noisy_turns is_one t) one)
+        joint_clash f g Lose t one same =
+            ap (λ n. 1 + n) same ∙ sym (count_first is_one (record { request = f; fate = Pass; back = backs.Clashing g Lose }) (turns t) ∙ ap (λ v. (if v then 1 else 0) + noisy_turns is_one t) one)
+        joint_clash f g Break t one same =
+            ap (λ n. 1 + n) same ∙ sym (count_first is_one (record { request = f; fate = Pass; back = backs.Clashing g Break }) (turns t) ∙ ap (λ v. (if v then 1 else 0) + noisy_turns is_one t) one)
 
-    lost_count : (f : Signal) (x : Fate) (t : List Event) → is_one f ≡ true → (nat_lt 0 (other_than_pass x + 0) ≡ true) → other_than_pass x ≡ 1 → back_of t ≡ backs.Nothing → noise t ≡ noisy_turns is_one t
+    lost_count : (f : Signal) (x : Fate) (t : List Event) → is_one f ≡ true → (nat_lt 0 (other_than_pass x + 0) ≡ true) → other_than_pass x ≡ 1 → back_of t ≡ backs.Nothing
+        → noise t ≡ noisy_turns is_one t
         → noise (Request f x ∷ t) ≡ noisy_turns is_one (Request f x ∷ t)
     lost_count f x t one noisy count fresh same =
         ap (λ n. n + noise t) count ∙ ap (λ n. 1 + n) same
@@ -306,7 +317,8 @@ module _ (b : List Event) (fresh : back_of b ≡ backs.Nothing) (one : up_to_res
       let k = last_behind P (up_to_reset a) (rounds a) h in
       last_from P (up_to_reset (a ++ b)) (rounds (a ++ b)) (λ e. by_end (up_to_then a) (k.0 (same_none a e))) (λ more. last_then P stays empty a (k.1 (λ e. more (other_none a e))))
     where
-      by_end : ((up_to_reset (a ++ b) ≡ up_to_reset a ++ b) × (rounds (a ++ b) ≡ []) × (rounds a ≡ [])) ⊎ ((up_to_reset (a ++ b) ≡ up_to_reset a) × (Unit {0})) → P (up_to_reset a) → P (up_to_reset (a ++ b))
+      by_end : ((up_to_reset (a ++ b) ≡ up_to_reset a ++ b) × (rounds (a ++ b) ≡ []) × (rounds a ≡ [])) ⊎ ((up_to_reset (a ++ b) ≡ up_to_reset a) × (Unit {0})) → P (up_to_reset a)
+          → P (up_to_reset (a ++ b))
       by_end (inl e) q = subst P (sym e.0) (stays (up_to_reset a) q)
       by_end (inr e) q = subst P (sym e.0) q
   last_then P stays empty (Request f x ∷ a) h = last_then P stays empty a h

@@ -10,7 +10,8 @@ use Rattle.nfc_base.specs.declared.event.Fate.{Fate}
 use Rattle.nfc_base.specs.declared.event.Fate.TheVariants.{Pass, Damage, Lose, Break}
 use Rattle.nfc_base.specs.declared.event.Heard.{Heard}
 use Rattle.air_core.specs.Joint.{Nothing}
-use Rattle.air_core.specs.Conversation.{AirModel, Note, Lit, note, Next, LightUp, Asks, EachDue, first_fate, later_fates, queue_after, FatesFrom, replay, turn_events, turn_heard, Move, Light, Ask, trace_of, Moment, with_events, TurnsTo, receptions}
+use Rattle.air_core.specs.Conversation.{AirModel, Note, Lit, note, Next, LightUp, Asks, EachDue, first_fate, later_fates, queue_after, FatesFrom, replay, turn_events, turn_heard, Move, Light, Ask}
+use Rattle.air_core.specs.Conversation.{trace_of, Moment, with_events, TurnsTo, receptions}
 use Rattle.air_core.specs.laws.Turning.{receptions-append}
 use Rattle.air_core.proofs.Following.{turn_first, trace_first, turn_known, turn_split}
 use Rattle.air_core.proofs.OneCourse.{joint_fated}
@@ -62,7 +63,8 @@ module _ {W : Type 0} (m : AirModel W) where
         let there : P (with_events m b es) (hs ++ note (turn_heard m b.world f (first_fate q) (first_fate (later_fates q))) ∷ []) =
         turn b (with_events m b es) hs f (turn_heard m b.world f (first_fate q) (first_fate (later_fates q))) p calm (sym (ap next known) ∙ split.0) turned in
         let here : P (with_events m b es) (hs ++ note h ∷ []) = subst (λ n. P (with_events m b es) (hs ++ n ∷ [])) (sym told) there in
-        let seen : receptions (before ++ es) ≡ hs ++ note h ∷ [] = receptions-append before es (turn_fresh b.world f x y) ∙ ap (λ ns. receptions before ++ ns) notes ∙ ap (λ ns. ns ++ note h ∷ []) known in
+        let seen : receptions (before ++ es) ≡ hs ++ note h ∷ [] = receptions-append before es (turn_fresh b.world f x y) ∙ ap (λ ns. receptions before ++ ns) notes
+        ∙ ap (λ ns. ns ++ note h ∷ []) known in
         let end = more seen here (left b.queue es calm) split.1 fate.1 in
         let all : (hs ++ note h ∷ []) ++ receptions rest ≡ hs ++ receptions (es ++ rest) =
         append_assoc hs (note h ∷ []) (receptions rest) ∙ ap (λ ns. hs ++ ns) (sym (turn_known m b.world f x y rest fresh)) in

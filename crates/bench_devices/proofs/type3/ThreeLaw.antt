@@ -84,7 +84,8 @@ pub law_sought : (id : List ℕ) (old new : Moment BenchWorld) (ns : List Note) 
 law_sought id old new ns g message d r es holds law =
     let own : List ℕ = device_id d in
     let replayed : new.world ≡ replay air old.world g.events = ap (λ (t : Moment BenchWorld). t.world) g.moment in
-    let there : held_by (device_with own (replay air old.world g.events).listeners) ≡ device_store d = subst (λ (w : BenchWorld). held_by (device_with own w.listeners) ≡ device_store d) replayed holds in
+    let there : held_by (device_with own (replay air old.world g.events).listeners) ≡ device_store d =
+    subst (λ (w : BenchWorld). held_by (device_with own w.listeners) ≡ device_store d) replayed holds in
     let olds : AllByRecursion (λ s. s ≡ device_store d) (images_before own old.world g.events) =
     subst (λ store. AllByRecursion (λ s. s ≡ store) (images_before own old.world g.events)) there (still_before own old.world g.events (sought_harmless id old new ns g)) in
     subst (Write3Law message (device_store d) r) (sym (images_join own old.world g.events es))

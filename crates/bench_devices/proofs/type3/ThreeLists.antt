@@ -1,5 +1,6 @@
 -- What a read asks of a Type 3 tag is one list, of which what was asked is a front; and it changes no device.
-use Rattle.std.proofs.Common.{◌≡◌, ◌⊎◌, inl, inr, ℕ, zero, suc, ◌+◌, ◌<◌, ◌≤◌, List, [], ◌∷◌, ◌++◌, length, drop, Option, Bool, true, false, not, if◌then◌else◌, refl, sym, ap, subst, arith, append_assoc, append-nil}
+use Rattle.std.proofs.Common.{◌≡◌, ◌⊎◌, inl, inr, ℕ, zero, suc, ◌+◌, ◌<◌, ◌≤◌, List, [], ◌∷◌, ◌++◌, length, drop, Option, Bool, true, false, not, if◌then◌else◌, refl, sym, ap, subst, arith}
+use Rattle.std.proofs.Common.{append_assoc, append-nil}
 use Rattle.std.specs.List.{AllByRecursion}
 use Rattle.std.proofs.lemmas.Bool.{cases_lt}
 use Rattle.nfc_base.specs.Signal.{Signal}
@@ -68,7 +69,8 @@ module _ (id store : List ℕ) (is : IsT3Store store) where
   from_message r zero n each past = ends (suc n) each (λ d. absurd (let less : taken_at block n < needed block = d.2 in omega (arith, less, past)))
   from_message r (suc fuel) n each past = by_left (cases_lt (taken_at block n) (needed block)) (λ each' past'. from_message r fuel (suc n) each' past')
     where
-      by_left : (taken_at block n < needed block) ⊎ (needed block ≤ taken_at block n) → (AreDue block (suc (suc n)) → needed block ≤ taken_at block (suc n) + fuel → Rest id store (suc (suc n))) → Rest id store (suc n)
+      by_left : (taken_at block n < needed block) ⊎ (needed block ≤ taken_at block n) → (AreDue block (suc (suc n)) → needed block ≤ taken_at block (suc n) + fuel → Rest id store (suc (suc n)))
+          → Rest id store (suc n)
       by_left (inr all) later = ends (suc n) each (λ d. absurd (let less : taken_at block n < needed block = d.2 in omega (arith, less, all)))
       by_left (inl less) later =
           let due : IsDue block (suc n) = (r.0, r.1, less) in

@@ -130,7 +130,8 @@ module _ (a : Air Device) (place : ℕ) (id : List ℕ) (d : Device) (s : Stands
       (ends f).some rest.0 rest.1 (elim is.err [ inl own ↦ inl own | inr by ↦ inr by.0 ])
 
 -- on the link that is new
-module _ (p : PlainSeen Device) (is : IsNew p) (id : List ℕ) (q : PlainSeen Device) (moves : PlainMoves ghosts p q) (r : Result Found3 T3Fault) (told : ReadTold id (plain_view ghosts p) (plain_view ghosts q) r)
+module _ (p : PlainSeen Device) (is : IsNew p) (id : List ℕ) (q : PlainSeen Device) (moves : PlainMoves ghosts p q) (r : Result Found3 T3Fault)
+    (told : ReadTold id (plain_view ghosts p) (plain_view ghosts q) r)
     (law : Reads3 id (plain_view ghosts p) (plain_view ghosts q) r) (asks : AsksOf3 id (plain_view ghosts p) (plain_view ghosts q) r) where
   abbrev here : (LinkView → Type 0) → Type 0
   here P = P (plain_view ghosts p) → P (plain_view ghosts (begun p.air p.place))

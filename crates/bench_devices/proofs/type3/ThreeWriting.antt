@@ -25,7 +25,8 @@ use Rattle.bench_devices.specs.declared.device.Device.{Device}
 use Rattle.bench_devices.specs.Device.{air, device_id, device_locks, device_store, device_tech}
 use Rattle.bench_devices.specs.Keeping.{ghosts, LeavesDevices, StoreOf}
 use Rattle.bench_devices.specs.private.Linking.{IsNew as IsNewSeen}
-use Rattle.bench_devices.specs.Threes.{StandsThree, AsksThree, AsksThreeSome, FailsThree, WriteAsksThree, WriteAsksThreeOf, ShowsThreeWrite, ShowsThreeWriteOf, LeavesThree, Write3Law, KeepsWrite3Law, WritesThree, WritesThreeSome, WritesThreeAt, CutThreeWriteAt}
+use Rattle.bench_devices.specs.Threes.{StandsThree, AsksThree, AsksThreeSome, FailsThree, WriteAsksThree, WriteAsksThreeOf, ShowsThreeWrite, ShowsThreeWriteOf, LeavesThree, Write3Law, KeepsWrite3Law}
+use Rattle.bench_devices.specs.Threes.{WritesThree, WritesThreeSome, WritesThreeAt, CutThreeWriteAt}
 use Rattle.bench_devices.proofs.selected.Alone.{first_there, sound_there, beside_there, named_there}
 use Rattle.bench_devices.proofs.kinds.EveryFrame.{going_leaves}
 use Rattle.bench_devices.proofs.kinds.ImagesJoin.{images_at, same_going}
@@ -53,7 +54,8 @@ IsTold (fault.Refused status) = Unit {0}
 IsTold e = ⊥
 
 -- The law over stores that follow those that the tag passed.
-module _ (message : List ℕ) (locked : List Bool) (a b : LinkView) (stores : List (List ℕ)) (more : List Signal) (leads : Leads a b more) (follow : Follows a.state.store stores (passed a.step a.state more)) where
+module _ (message : List ℕ) (locked : List Bool) (a b : LinkView) (stores : List (List ℕ)) (more : List Signal) (leads : Leads a b more)
+    (follow : Follows a.state.store stores (passed a.step a.state more)) where
   abbrev old : List ℕ
   old = a.state.store
 
@@ -148,7 +150,8 @@ module _ (a : Air Device) (place : ℕ) (id : List ℕ) (d : Device) (s : Stands
 
   rest_check : AsksNoUpdate id from to → HasRest held
   rest_check u =
-      by_front (asked_front from to m.asked.commands (none_before a place q m) refl (asked_told a place q m) (λ c. c ≡ check_of id 0 1) [] (u.answered ∙ sym (append-nil from.answered)) (by_last u.last))
+      by_front (asked_front from to m.asked.commands (none_before a place q m) refl (asked_told a place q m) (λ c. c ≡ check_of id 0 1) [] (u.answered ∙ sym (append-nil from.answered))
+      (by_last u.last))
     where
       by_last : ((to.last ≡ from.last) × (to.over ≡ from.over)) ⊎ (to.last ≡ Some (check_of id 0 1)) → (to.over ≡ from.over) ⊎ ((c : Signal) × (to.last ≡ Some c) × (c ≡ check_of id 0 1))
       by_last (inl l) = inl l.1
@@ -192,7 +195,8 @@ module _ (a : Air Device) (place : ℕ) (id : List ℕ) (d : Device) (s : Stands
   abbrev Does : End → Type 0
   Does r = AsksThree (StoreOf (device_id d)) IsAll (ShowsThreeWriteOf message d) FailsThree (moment a) (moment q.air) r
 
-  ends : (r : End) → AsksWrite id locked message from to r → LinkEnds IsAll (ShowsThreeWriteOf message d) FailsThree from to m.asked.commands Does (AsksThreeSome (StoreOf (device_id d)) IsAll (moment a) (moment q.air))
+  ends : (r : End) → AsksWrite id locked message from to r → LinkEnds IsAll (ShowsThreeWriteOf message d) FailsThree from to m.asked.commands Does
+      (AsksThreeSome (StoreOf (device_id d)) IsAll (moment a) (moment q.air))
   ends r u =
       plain_ends (StoreOf (device_id d)) IsAll (ShowsThreeWriteOf message d) FailsThree a place (ap (λ (w : World Device). w.lit) s.stands.world) q m (leaves r u)
 
@@ -245,7 +249,8 @@ module _ (a : Air Device) (place : ℕ) (id : List ℕ) (d : Device) (s : Stands
   fault_told fault.BadSize fed told law (inl u) = told_all (Err fault.BadSize) u u.whole (open_start fault.BadSize tt told) (at_store (λ st. ShowsOn st (Err fault.BadSize)) law.err.0)
   fault_told fault.BadSize fed told law (inr u) = absurd u.1
   fault_told (fault.Refused status) fed told law (inl u) =
-      told_all (Err (fault.Refused status)) u u.whole (open_start (fault.Refused status) tt told) (at_store (λ st. ShowsOn st (Err (fault.Refused status))) (law.err.status', law.err.takes, law.err.number, law.err.some, law.err.locked'))
+      told_all (Err (fault.Refused status)) u u.whole (open_start (fault.Refused status) tt told)
+      (at_store (λ st. ShowsOn st (Err (fault.Refused status))) (law.err.status', law.err.takes, law.err.number, law.err.some, law.err.locked'))
   fault_told (fault.Refused status) fed told law (inr u) = absurd u.1
   fault_told fault.ReadOnly fed told law (inl u) = told_all (Err fault.ReadOnly) u u.whole told.reads.answered.over (at_store (λ st. ShowsOn st (Err fault.ReadOnly)) law.err.0)
   fault_told fault.ReadOnly fed told law (inr u) = absurd u.1
@@ -289,7 +294,8 @@ module _ (a : Air Device) (place : ℕ) (id : List ℕ) (d : Device) (s : Stands
       record { told = some; law = subst (KeepsWrite3Law message d (Err fault.Memory) (world a)) (same_going (moment a) (moment q.air) m.asked.going some.asked.going) (law_here (Err fault.Memory) is) }
 
 -- on the link that is new
-module _ (p : PlainSeen Device) (is : IsNewSeen p) (id message : List ℕ) (q : PlainSeen Device) (moves : PlainMoves ghosts p q) (r : End) (told : WriteTold id (plain_view ghosts p) (plain_view ghosts q) message r)
+module _ (p : PlainSeen Device) (is : IsNewSeen p) (id message : List ℕ) (q : PlainSeen Device) (moves : PlainMoves ghosts p q) (r : End)
+    (told : WriteTold id (plain_view ghosts p) (plain_view ghosts q) message r)
     (law : Writes3 id message (plain_view ghosts p) (plain_view ghosts q) r) (asks : AsksOfWrite3 id message (plain_view ghosts p) (plain_view ghosts q) r) where
   from_here : (P : LinkView → Type 0) → P (plain_view ghosts p) → P (plain_view ghosts (begun p.air p.place))
   from_here P = subst (λ x. P (plain_view ghosts x)) (sym (new_is p is))

@@ -1,5 +1,6 @@
 -- What is asked of a Type 3 tag is answered, and each answer is heard where all passes.
-use Rattle.std.proofs.Common.{◌≡◌, ◌⊎◌, inl, inr, ℕ, zero, suc, ◌<◌, ◌≤◌, List, [], ◌∷◌, ◌++◌, length, map, Bool, true, false, not, nat_le, ◌==◌, ◌||◌, if◌then◌else◌, Option, Some, None, Ok, Err, refl, sym, ◌∙◌, ap, subst, append_assoc, append-nil, arith}
+use Rattle.std.proofs.Common.{◌≡◌, ◌⊎◌, inl, inr, ℕ, zero, suc, ◌<◌, ◌≤◌, List, [], ◌∷◌, ◌++◌, length, map, Bool, true, false, not, nat_le, ◌==◌, ◌||◌, if◌then◌else◌, Option, Some, None, Ok, Err}
+use Rattle.std.proofs.Common.{refl, sym, ◌∙◌, ap, subst, append_assoc, append-nil, arith}
 use Rattle.std.specs.List.{AllByRecursion, cons_option}
 use Rattle.nfc_base.specs.declared.frame.Tech.TheVariants.{F}
 use Rattle.nfc_base.specs.declared.event.Event.{Event}
@@ -12,7 +13,8 @@ use Rattle.nfc_base.specs.TagLinks.{MayAsk, Type3}
 use Rattle.nfc_base.specs.Trace.{heard_by}
 use Rattle.air_core.specs.Joint.{Joint, Nothing, Single, Clashing, joint, same_tech}
 use Rattle.air_core.specs.World.{hears, answered_by, stepped_by}
-use Rattle.air_core.specs.Conversation.{Note, Lit, Got, note, Next, Over, LightUp, Asks, Moment, TurnsTo, AreTurns, EachDue, FatesFrom, receptions, joint_events, joint_back, replay, turn_events, turn_heard, with_events}
+use Rattle.air_core.specs.Conversation.{Note, Lit, Got, note, Next, Over, LightUp, Asks, Moment, TurnsTo, AreTurns, EachDue, FatesFrom, receptions, joint_events, joint_back, replay, turn_events}
+use Rattle.air_core.specs.Conversation.{turn_heard, with_events}
 use Rattle.air_core.specs.PlainTags.{IsAside, IsAlone}
 use Rattle.air_core.specs.Waits.{stand, waits_next}
 use Rattle.air_core.proofs.OneAir.{same_itself}
@@ -76,7 +78,9 @@ check_heeded id size first count least most = record {
 
 -- whatever becomes of an Update, it is told
 update_told : (t : T3State) (block : ℕ) (content : List ℕ) (u v w : Bool)
-    → (a : T3Answer) × ((if u then tells t (UpdateRefused t.id not_taken) else if v then tells t (UpdateRefused t.id no_block) else if w then tells t (UpdateRefused t.id block_locked) else writes t block content).answer ≡ Some a)
+    → (a : T3Answer)
+    × ((if u then tells t (UpdateRefused t.id not_taken) else if v then tells t (UpdateRefused t.id no_block) else if w then tells t (UpdateRefused t.id block_locked)
+    else writes t block content).answer ≡ Some a)
 update_told t block content true v w = (_, refl)
 update_told t block content false true w = (_, refl)
 update_told t block content false false true = (_, refl)
@@ -87,7 +91,8 @@ update_heeded id size block content long = record {
   may = record { size = _; code = update_code; rest = _; frame = refl };
   tells = λ t named.
       let turn : t3_turn t (update_of t.id block content) ≡ written_turn t write_service block content = update_turns t (ap length named ∙ size) block content long in
-      let here : t3_turn t (update_of id block content) ≡ written_turn t write_service block content = subst (λ i. t3_turn t (update_of i block content) ≡ written_turn t write_service block content) named turn in
+      let here : t3_turn t (update_of id block content) ≡ written_turn t write_service block content =
+      subst (λ i. t3_turn t (update_of i block content) ≡ written_turn t write_service block content) named turn in
       let told = update_told t block content (not (write_service == write_service)) (nat_le (block_count t.store) block) (is_locked t block) in
       (told.0, ap (λ (r : T3Turn). r.answer) here ∙ told.1);
 }
@@ -261,7 +266,8 @@ module _ (id : List ℕ) (size : length id ≡ 8) (asked : List Signal) (a : Mom
   due_behind b hs x =
       ap (λ ns. then_three asked (seeking id ns)) (sym (append-nil hs)) ∙ ap (then_three asked) (x.told []) ∙ x.next []
 
-  turn_behind : (b c : Moment BenchWorld) (hs : List Note) (f : Signal) (h : Option Heard) (x : Behind b hs) → Passing b.queue → (left : List Signal) → ((ms : List Note) → waits_next asked (x.since ++ ms) ≡ waits_next left ms)
+  turn_behind : (b c : Moment BenchWorld) (hs : List Note) (f : Signal) (h : Option Heard) (x : Behind b hs) → Passing b.queue → (left : List Signal)
+      → ((ms : List Note) → waits_next asked (x.since ++ ms) ≡ waits_next left ms)
       → Goes b left → waits_next left [] ≡ Asks f → TurnsTo air b c f h → Behind c (hs ++ note h ∷ [])
   turn_behind b c hs f h x calm [] next goes due turn = absurd (let over : Over ≡ Asks f = due in cc)
   turn_behind b c hs f h x calm (g ∷ left) next (inr none) due turn = absurd cc
@@ -275,7 +281,8 @@ module _ (id : List ℕ) (size : length id ≡ 8) (asked : List Signal) (a : Mom
       subst B (sym heard) (record {
         since = x.since ++ Got (Whole r.answer) ∷ [];
         left = left;
-        told = λ ms. ap (seeking id) (append_assoc hs (Got (Whole r.answer) ∷ []) ms) ∙ x.told (Got (Whole r.answer) ∷ ms) ∙ ap (Told (Ok tt)) (sym (append_assoc x.since (Got (Whole r.answer) ∷ []) ms));
+        told = λ ms. ap (seeking id) (append_assoc hs (Got (Whole r.answer) ∷ []) ms) ∙ x.told (Got (Whole r.answer) ∷ ms)
+            ∙ ap (Told (Ok tt)) (sym (append_assoc x.since (Got (Whole r.answer) ∷ []) ms));
         all = all_answered x.since r.answer x.all;
         next = λ ms. ap (waits_next asked) (append_assoc x.since (Got (Whole r.answer) ∷ []) ms) ∙ next (Got (Whole r.answer) ∷ ms);
         goes = inl (place, subst (StandsOn id place) (sym world) r.stands, heeded.1);
@@ -284,7 +291,8 @@ module _ (id : List ℕ) (size : length id ≡ 8) (asked : List Signal) (a : Mom
   due_seeking : (b : Moment BenchWorld) (hs : List Note) (x : Seeks b hs) → three_due id asked hs ≡ x.next
   due_seeking b hs x = ap (three_due id asked) x.is ∙ ap (then_three asked) x.told
 
-  turns : (b c : Moment BenchWorld) (hs : List Note) (f : Signal) (h : Option Heard) → Course b hs → Passing b.queue → three_due id asked hs ≡ Asks f → TurnsTo air b c f h → Course c (hs ++ note h ∷ [])
+  turns : (b c : Moment BenchWorld) (hs : List Note) (f : Signal) (h : Option Heard) → Course b hs → Passing b.queue → three_due id asked hs ≡ Asks f → TurnsTo air b c f h
+      → Course c (hs ++ note h ∷ [])
   turns b c hs f h (inl x) calm due turn = absurd (let clash : LightUp ≡ Asks f = sym (ap (three_due id asked) x.0) ∙ due in cc)
   turns b c hs f h (inr (inl x)) calm due turn =
       let asks_f : x.next ≡ Asks f = sym (due_seeking b hs x) ∙ due in
@@ -307,7 +315,8 @@ module _ (id : List ℕ) (size : length id ≡ 8) (asked : List Signal) (a : Mom
       let goes : Goes c asked = by_heeds c world heeds in
       subst (Course c) (sym (ap (λ ns. ns ++ Lit ∷ []) x.0)) (sought c [] goes (follows (picking_f id) []) tt refl)
     where
-      by_heeds : (c : Moment BenchWorld) → c.world ≡ record { lit = true; listeners = map relit a.world.listeners } → ((has_three id a.world.listeners ≡ true) × AllByRecursion (IsHeeded id) asked) ⊎ (asked ≡ []) → Goes c asked
+      by_heeds : (c : Moment BenchWorld) → c.world ≡ record { lit = true; listeners = map relit a.world.listeners }
+          → ((has_three id a.world.listeners ≡ true) × AllByRecursion (IsHeeded id) asked) ⊎ (asked ≡ []) → Goes c asked
       by_heeds c world (inl (there, heeded)) =
           let s = stands_relit id a.world.listeners sound there in
           inl (s.0, subst (StandsOn id s.0) (sym world) s.1, heeded)
@@ -327,7 +336,8 @@ module _ (id : List ℕ) (size : length id ≡ 8) (asked : List Signal) (a : Mom
   answered b hs (inr (inr (inr x))) behind e = absurd (let clash : ◌≡◌ {A = Followed (Unit {0})} (Told (Err x.fault) x.since) (Told (Ok tt) behind) = sym x.told ∙ e in cc)
 
   -- In a command that finds a Type 3 tag and asks it what it heeds, each note behind the search is a whole answer.
-  pub three_hears : (es : List Event) → Passing a.queue → AreTurns air a.world es → FatesFrom a.queue es → EachDue (three_due id asked) [] es → (behind : List Note) → seeking id (receptions es) ≡ Told (Ok tt) behind
+  pub three_hears : (es : List Event) → Passing a.queue → AreTurns air a.world es → FatesFrom a.queue es → EachDue (three_due id asked) [] es → (behind : List Note)
+      → seeking id (receptions es) ≡ Told (Ok tt) behind
       → AllByRecursion IsAnswered behind
   three_hears es calm made fates each behind told =
       let end = walk air Passing left_passing (three_due id asked) Course (λ b hs x due. lights b hs x due) (λ b c hs f h x passes due turn. turns b c hs f h x passes due turn)

@@ -102,7 +102,8 @@ module _ (message : List ℕ) (p : IsoSeen Device) (is : IsNewLink p) (d : Devic
       let follow : Follows from.state.store stores (passed from.step from.state m.obeys.obeyed) =
       subst (λ es. Follows from.state.store (stores_after ghosts p.place (world p.air) es) (passed from.step from.state m.obeys.obeyed)) same m.obeys.images in
       let law : WriteLaw (how_of d) (size_of d) (device_store d) message (ending_of r) (device_store d ∷ stores) =
-      write_law message d all_write from to (from_step p is d l) (from_plain p is d l) m.asks.asked (none_before p is d l) is.over (asked_told p is d l q m) r k m.obeys.obeyed m.obeys.leads stores follow in
+      write_law message d all_write from to (from_step p is d l) (from_plain p is d l) m.asks.asked (none_before p is d l) is.over (asked_told p is d l q m) r k m.obeys.obeyed m.obeys.leads stores
+      follow in
       subst (WriteLaw (how_of d) (size_of d) (device_store d) message (ending_of r))
       (ap (λ st. st ∷ stores) (sym store_at) ∙ sym (images_at (device_id d) p.place (world p.air) m.asks.going.events first_here)) law
 
@@ -189,7 +190,8 @@ module _ (message : List ℕ) (old : Air Device) (place : ℕ) (one : (e : Devic
         let o : WritesOn (moment mid) (moment new) d (waiting by_link.code) message r = subst (λ i. WritesOn (moment mid) (moment new) d i message r) by_link.reader on in
         let told =
         as_told (StoreOf own) (AsksWriteOf message d) (ShowsWrite message d) FailsWrite (moment old) (moment new) d r one.2
-        (linked_asks (StoreOf own) (AsksWriteOf message d) (ShowsWrite message d) FailsWrite all_asked old mid place d one.1 one.2 (sound_there old place d one.1) new by_link.code by_link.sent by_link.tells r o.told) in
+        (linked_asks (StoreOf own) (AsksWriteOf message d) (ShowsWrite message d) FailsWrite all_asked old mid place d one.1 one.2 (sound_there old place d one.1) new by_link.code by_link.sent
+        by_link.tells r o.told) in
         record { told = told; law = law_both new (ending_of r) o.told.asked.going.events told.asked.going.events o.told.asked.going.moment told.asked.going.moment o.law }
 
     cut_ends : (new : Air Device) → WritesSomeOn (moment mid) (moment new) d l.reader message → WritesSome (moment old) (moment new) d message
@@ -197,7 +199,8 @@ module _ (message : List ℕ) (old : Air Device) (place : ℕ) (one : (e : Devic
         let o : WritesSomeOn (moment mid) (moment new) d (waiting by_link.code) message = subst (λ i. WritesSomeOn (moment mid) (moment new) d i message) by_link.reader on in
         let told =
         as_cut (StoreOf own) (AsksWriteOf message d) (ShowsWrite message d) FailsWrite (moment old) (moment new) d one.2
-        (linked_cut (StoreOf own) (AsksWriteOf message d) (ShowsWrite message d) FailsWrite all_asked old mid place d one.1 one.2 (sound_there old place d one.1) new by_link.code by_link.sent by_link.tells o.told) in
+        (linked_cut (StoreOf own) (AsksWriteOf message d) (ShowsWrite message d) FailsWrite all_asked old mid place d one.1 one.2 (sound_there old place d one.1) new by_link.code by_link.sent
+        by_link.tells o.told) in
         record { told = told; law = law_both new Stopped o.told.asked.going.events told.asked.going.events o.told.asked.going.moment told.asked.going.moment o.law }
 
     -- the field is given back as the link left it
@@ -213,7 +216,8 @@ module _ (message : List ℕ) (old : Air Device) (place : ℕ) (one : (e : Devic
   module _ {R : Type 0} (new : Air Device) (given : Result R AskFault) (fault : AskFault) (failed : given ≡ Err fault)
       (rests : OnErr given (IfErr given (λ e. AsksRats devices old new (Err e) × Activates ghosts device_card device_tag old new place (Err e)))) where
     -- RATS was sent then, up to some end of its wait
-    law_refused : (e : AskFault) → RatsEnds ghosts device_card device_tag old new place (Err e) → (es : List Event) → moment new ≡ with_events air (moment old) es → KeepsWriteLaw message d Stopped (world old) es
+    law_refused : (e : AskFault) → RatsEnds ghosts device_card device_tag old new place (Err e) → (es : List Event) → moment new ≡ with_events air (moment old) es
+        → KeepsWriteLaw message d Stopped (world old) es
     law_refused asking.FieldLost (inl dark) es whole = absurd (let clash : true ≡ false = sym (ap (λ (w : World Device). w.lit) one.1.world) ∙ dark.0 in cc)
     law_refused asking.FieldLost (inr ends) es whole = law_sent new (waits.Broken asking.FieldLost (rats ∷ [])) ends.0 es whole
     law_refused asking.SixBad ends es whole = law_sent new (waits.Broken asking.SixBad (rats ∷ [])) ends es whole
@@ -232,7 +236,8 @@ module _ (message : List ℕ) (old : Air Device) (place : ℕ) (one : (e : Devic
         let ends : RatsEnds ghosts device_card device_tag old new place (Err fault) = refused old place one new given fault failed rests in
         let told =
         as_told (StoreOf own) (AsksWriteOf message d) (ShowsWrite message d) FailsWrite (moment old) (moment new) d (tell fault) one.2
-        (unanswered_asks (StoreOf own) (AsksWriteOf message d) (ShowsWrite message d) FailsWrite all_asked old new place d one.1 one.2 (sound_there old place d one.1) tell refl (λ k. cc) refl (λ k. cc)
+        (unanswered_asks (StoreOf own) (AsksWriteOf message d) (ShowsWrite message d) FailsWrite all_asked old new place d one.1 one.2 (sound_there old place d one.1) tell refl (λ k. cc) refl
+        (λ k. cc)
         fault starved ends) in
         let law : KeepsWriteLaw message d (ending_of (tell fault)) (world old) told.asked.going.events =
         subst (λ x. KeepsWriteLaw message d x (world old) told.asked.going.events) (sym (stopped fault)) (law_refused fault ends told.asked.going.events told.asked.going.moment) in
@@ -252,5 +257,6 @@ module _ (message : List ℕ) (old : Air Device) (place : ℕ) (one : (e : Devic
         subst (λ f. RatsEnds ghosts device_card device_tag old new place (Err f)) want (refused old place one new given fault failed rests) in
         let told =
         as_cut (StoreOf own) (AsksWriteOf message d) (ShowsWrite message d) FailsWrite (moment old) (moment new) d one.2
-        (rats_cut (StoreOf own) (AsksWriteOf message d) (ShowsWrite message d) FailsWrite all_asked old new place d one.1 one.2 (sound_there old place d one.1) (waits.Asking ends.0 (rats ∷ [])) ends.1 ends.0 refl) in
+        (rats_cut (StoreOf own) (AsksWriteOf message d) (ShowsWrite message d) FailsWrite all_asked old new place d one.1 one.2 (sound_there old place d one.1) (waits.Asking ends.0 (rats ∷ [])) ends.1
+        ends.0 refl) in
         cut_any new (record { told = told; law = law_refused asking.Memory ends told.asked.going.events told.asked.going.moment })

@@ -97,7 +97,8 @@ five_decided id size store n some =
       ]
     ]
 
-five_less : (id : List ℕ) (size : ℕ) (store : List ℕ) → 1 ≤ size → (n : ℕ) → 0 < n → IsLeft (T5 id) size store n → left_of store (progress_at size store (suc n)) < left_of store (progress_at size store n)
+five_less : (id : List ℕ) (size : ℕ) (store : List ℕ) → 1 ≤ size → (n : ℕ) → 0 < n → IsLeft (T5 id) size store n
+    → left_of store (progress_at size store (suc n)) < left_of store (progress_at size store n)
 five_less id size store least n some m =
     let p : Progress = progress_at size store n in
     let grown : 1 * p.blocks ≤ size * p.blocks = mul-le-mul_right p.blocks least in

@@ -1,6 +1,7 @@
 -- What a write asks of a device, the device heeds: a survey as a read is, and commands of blocks that have their size and of bytes
 -- that one update brings.
-use Rattle.std.proofs.Common.{◌≡◌, ℕ, ◌-◌, ◌*◌, ◌/◌, ◌%◌, ◌<◌, ◌≤◌, ◌==◌, nat_lt, Bool, true, false, if◌then◌else◌, List, [], ◌∷◌, ◌++◌, length, take, drop, take-append-drop, Some, refl, sym, ap, subst, arith}
+use Rattle.std.proofs.Common.{◌≡◌, ℕ, ◌-◌, ◌*◌, ◌/◌, ◌%◌, ◌<◌, ◌≤◌, ◌==◌, nat_lt, Bool, true, false, if◌then◌else◌, List, [], ◌∷◌, ◌++◌, length, take, drop, take-append-drop, Some, refl, sym, ap}
+use Rattle.std.proofs.Common.{subst, arith}
 use Rattle.std.specs.Int.{div_ceil}
 use Rattle.std.specs.List.{AllByRecursion}
 use Rattle.nfc_base.specs.Signal.{Signal}
@@ -79,11 +80,13 @@ update_heeded : (offset : ℕ) (content : List ℕ) → offset < 65536 → lengt
 update_heeded offset content low few bytes =
     let count : length content < 256 = omega (arith, few) in (
       omega (arith, few),
-      small_bytes (class_byte ∷ update_code ∷ []) (offset / 256 ∷ offset % 256 ∷ length content ∷ content) refl (two_bytes offset (length content ∷ content) low (cons_bytes (length content) content count bytes)),
+      small_bytes (class_byte ∷ update_code ∷ []) (offset / 256 ∷ offset % 256 ∷ length content ∷ content) refl
+          (two_bytes offset (length content ∷ content) low (cons_bytes (length content) content count bytes)),
     )
 
 cut_bytes : (n : ℕ) (xs : List ℕ) → AreBytes xs → AreBytes (take n xs) × AreBytes (drop n xs)
-cut_bytes n xs q = (let both : AreBytes (take n xs ++ drop n xs) = subst AreBytes (sym (take-append-drop n xs)) q in (front_bytes (take n xs) (drop n xs) both, behind_bytes (take n xs) (drop n xs) both))
+cut_bytes n xs q = (let both : AreBytes (take n xs ++ drop n xs) = subst AreBytes (sym (take-append-drop n xs)) q in
+    (front_bytes (take n xs) (drop n xs) both, behind_bytes (take n xs) (drop n xs) both))
 
 module _ (size : ℕ) (store message : List ℕ) (is : IsFileStore store) (place : Place) (takes : Takes hows.T4 size store message place) where
   abbrev map' : FileMap
@@ -105,7 +108,8 @@ module _ (size : ℕ) (store message : List ℕ) (is : IsFileStore store) (place
   contents bytes =
       both_all OfBytes (file_puts Prepared store message ++ file_puts Emptied store message) (file_puts Filled store message)
       (both_all OfBytes (file_puts Prepared store message) (file_puts Emptied store message) (closes (message_length (file_in store) == 0))
-      (all_run OfBytes (piece_of (update_put store) message (most_brought store)) 0 (div_ceil (length message) (most_brought store)) (λ k low high. (cut_bytes (most_brought store) _ (cut_bytes (most_brought store * k) message bytes).1).0)))
+      (all_run OfBytes (piece_of (update_put store) message (most_brought store)) 0 (div_ceil (length message) (most_brought store))
+      (λ k low high. (cut_bytes (most_brought store) _ (cut_bytes (most_brought store * k) message bytes).1).0)))
       (lasts (length message == 0))
     where
       closes : (v : Bool) → AllByRecursion OfBytes (if v then [] else update_put store 0 (0 ∷ 0 ∷ []) ∷ [])
@@ -128,7 +132,8 @@ module _ (size : ℕ) (store message : List ℕ) (is : IsFileStore store) (place
 
   four_heeded : AreBytes message → (p : Parts) → AreFilePuts store message p → AllByRecursion (IsHeeded hows.T4) (commands_of (all_puts p))
   four_heeded bytes p are =
-      subst (λ ps. AllByRecursion (IsHeeded hows.T4) (commands_of ps)) (sym (file_parts_are store message p are)) (each_heeded (all_puts (file_parts store message)) (file_serves size store message (room_for size store message is place takes)).puts (contents bytes))
+      subst (λ ps. AllByRecursion (IsHeeded hows.T4) (commands_of ps)) (sym (file_parts_are store message p are))
+      (each_heeded (all_puts (file_parts store message)) (file_serves size store message (room_for size store message is place takes)).puts (contents bytes))
 
 -- So each tag heeds the writes of a message of bytes that it takes.
 puts_heeded : (message : List ℕ) (d : Device) → may_be_read d ≡ true → IsSound (kept d) → AreBytes message → (p : Parts) (place : Place) → Takes (how_of d) (size_of d) (device_store d) message place
@@ -145,7 +150,8 @@ puts_heeded message (T5 q) tagged sound bytes p place takes are =
     area_all (IsHeeded how) how q.tag.size are.0 q.tag.store message p are.2 (always (λ s. IsHeeded how (block_command how s)) (five_heeded q.tag.id) (steps_of are.2.plan))
 
 -- And so all that a write asks, of a tag whose container has bytes.
-pub write_heeded : (message : List ℕ) (d : Device) (asked : List Signal) → may_be_read d ≡ true → IsSound (kept d) → AreBytes (container_of d) → AreBytes message → AsksWriteOf message d asked → AllByRecursion (IsHeeded (how_of d)) asked
+pub write_heeded : (message : List ℕ) (d : Device) (asked : List Signal) → may_be_read d ≡ true → IsSound (kept d) → AreBytes (container_of d) → AreBytes message → AsksWriteOf message d asked
+    → AllByRecursion (IsHeeded (how_of d)) asked
 write_heeded message d asked tagged sound container bytes is =
     let P : Signal → Type 0 = IsHeeded (how_of d) in
     let store : List ℕ = device_store d in

@@ -87,7 +87,8 @@ module _ (P : Signal → Type 0) (how : How) (size : ℕ) where
   steps_all (s ∷ ss) all = (all.0, steps_all ss all.1)
 
   -- those of an area are the steps of its plan
-  pub area_all : (space : Space) (store message : List ℕ) (p : Parts) → (are : AreAreaPuts how size space store message p) → AllByRecursion (λ s. P (block_command how s)) (steps_of are.plan) → AllPuts (all_puts p)
+  pub area_all : (space : Space) (store message : List ℕ) (p : Parts) → (are : AreAreaPuts how size space store message p) → AllByRecursion (λ s. P (block_command how s)) (steps_of are.plan)
+      → AllPuts (all_puts p)
   area_all space store message p are all =
       let Q : Step → Type 0 = λ s. P (block_command how s) in
       let front = front_all Q (made are.plan.close ++ are.plan.fill) (made are.plan.last) all in
@@ -118,7 +119,8 @@ may_all message (T2 d) plain xs is =
     (both_all P is.read (up_to_refused hows.T2 step (plain_state store) (commands_of (all_puts is.parts)))
     (subst (AllByRecursion P) (sym is.all.list) (first_all P hows.T2 16 store (λ k. refl) is.all.count))
     (up_to_all P hows.T2 step (plain_state store) (commands_of (all_puts is.parts))
-    (writes_all P hows.T2 16 store message is.parts is.writes (λ place takes are. area_all P hows.T2 16 are.0 store message is.parts are.2 (always (λ s. P (block_command hows.T2 s)) (t2_may (device_id (T2 d))) (steps_of are.2.plan))))))
+    (writes_all P hows.T2 16 store message is.parts is.writes (λ place takes are. area_all P hows.T2 16 are.0 store message is.parts are.2
+    (always (λ s. P (block_command hows.T2 s)) (t2_may (device_id (T2 d))) (steps_of are.2.plan))))))
 may_all message (T4 d) plain xs is = absurd plain.0
 may_all message (Peer d) plain xs is = absurd (no_tag plain.1)
 may_all message (T3 p) plain xs is = absurd (no_tag plain.1)
@@ -131,4 +133,5 @@ may_all message (T5 p) plain xs is =
     (both_all P is.read (up_to_refused how step (plain_state store) (commands_of (all_puts is.parts)))
     (subst (AllByRecursion P) (sym is.all.list) (first_all P how p.tag.size store (λ k. may_ask p.tag.id (ask_at p.tag.size store (progress_at p.tag.size store k))) is.all.count))
     (up_to_all P how step (plain_state store) (commands_of (all_puts is.parts))
-    (writes_all P how p.tag.size store message is.parts is.writes (λ place takes are. area_all P how p.tag.size are.0 store message is.parts are.2 (always (λ s. P (block_command how s)) (t5_may p.tag.id) (steps_of are.2.plan))))))
+    (writes_all P how p.tag.size store message is.parts is.writes (λ place takes are. area_all P how p.tag.size are.0 store message is.parts are.2
+    (always (λ s. P (block_command how s)) (t5_may p.tag.id) (steps_of are.2.plan))))))

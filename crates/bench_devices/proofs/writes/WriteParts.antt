@@ -56,7 +56,8 @@ free_area : (r : Result Space ContainerFault) → Decided (AccessBy r true)
 free_area (Err f) = inr (λ is. is)
 free_area (Ok space) = elim (cases_Bool space.writable) [ inl yes' ↦ inl (sym yes') | inr no' ↦ inr (λ e. (let clash : true ≡ false = e ∙ no' in cc)) ]
 
-free_file : (store : List ℕ) (r : Result FileMap ContainerFault) → t4_container (container_in store) ≡ r → Decided ((map' : FileMap) × (t4_container (container_in store) ≡ Ok map') × (true ≡ map'.writable))
+free_file : (store : List ℕ) (r : Result FileMap ContainerFault) → t4_container (container_in store) ≡ r
+    → Decided ((map' : FileMap) × (t4_container (container_in store) ≡ Ok map') × (true ≡ map'.writable))
 free_file store (Err f) has = inr (λ p. (let clash : Ok p.0 ≡ Err f = sym p.1 ∙ has in cc))
 free_file store (Ok map') has = elim (cases_Bool map'.writable) [
   | inl yes' ↦ inl (map', has, sym yes')

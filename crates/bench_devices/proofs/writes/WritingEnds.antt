@@ -84,7 +84,8 @@ module _ (a : Air Device) (place : ℕ) (d : Device) (s : Stands (moment a) plac
       write_law message d all_write from to shows_step shows_state m.asked.commands (none_before a place q m) refl (asked_told a place q m) r k m.obeyed.commands m.obeyed.leads
       (stores_after ghosts place (world a) m.asked.going.events) follow in
       subst (WriteLaw (how_of d) (size_of d) (device_store d) message (ending_of r))
-      (ap (λ st. st ∷ stores_after ghosts place (world a) m.asked.going.events) (sym (shows_store a place d s)) ∙ sym (images_at (device_id d) place (world a) m.asked.going.events (first_there a place d s))) law
+      (ap (λ st. st ∷ stores_after ghosts place (world a) m.asked.going.events) (sym (shows_store a place d s))
+      ∙ sym (images_at (device_id d) place (world a) m.asked.going.events (first_there a place d s))) law
 
   pub writes : (r : WriteEnd) → (r ≡ Err faults.Memory → ⊥) → IsWritten (how_of d) (size_of d) message from to r → Writes (moment a) (moment q.air) d message r
   writes r fed t =
@@ -99,7 +100,8 @@ module _ (a : Air Device) (place : ℕ) (d : Device) (s : Stands (moment a) plac
       let told = as_cut (StoreOf (device_id d)) (AsksWriteOf message d) (ShowsWrite message d) FailsWrite (moment a) (moment q.air) d plain does in
       record { told = told; law = subst (KeepsWriteLaw message d Stopped (world a)) (same_going (moment a) (moment q.air) m.asked.going told.asked.going) (law_here (Err faults.Memory) k) }
 
-module _ (p : PlainSeen Device) (is : IsNew p) (how : How) (one : (e : Device) × Stands (moment p.air) p.place e × (how ≡ how_of e) × IsPlainHow how × (may_be_read e ≡ true)) (message : List ℕ) (q : PlainSeen Device)
+module _ (p : PlainSeen Device) (is : IsNew p) (how : How) (one : (e : Device) × Stands (moment p.air) p.place e × (how ≡ how_of e) × IsPlainHow how × (may_be_read e ≡ true)) (message : List ℕ)
+    (q : PlainSeen Device)
     (moves : PlainMoves ghosts p q) where
   abbrev IsTold : WriteEnd → How → PlainSeen Device → Type 0
   IsTold r h x = IsWritten h (size_of one.0) message (plain_view ghosts x) (plain_view ghosts q) r

@@ -1,5 +1,6 @@
 -- The bench's Type 2 and Type 4 tags are machines above a listener front: which frames are their own, and what stays.
-use Rattle.std.proofs.Common.{◌≡◌, ℕ, List, drop, slice_index, Bool, true, false, ◌||◌, is_some, if◌then◌else◌, Option, Some, None, refl, sym, ◌∙◌, ap}
+use Rattle.std.proofs.Common.{◌≡◌, ℕ, List, drop, slice_index, Bool, true, false, ◌||◌, is_some, if◌then◌else◌, Option}
+use Rattle.std.proofs.Common.{Some, None, refl, sym, ◌∙◌, ap}
 use Rattle.nfc_base.specs.declared.frame.Tech.{Tech}
 use Rattle.nfc_base.specs.declared.frame.Tech.TheVariants.{A}
 use Rattle.nfc_base.specs.Signal.{Signal}
@@ -26,7 +27,8 @@ use Rattle.isodep_link.specs.declared.card.CardStep.TheVariants as card
 use Rattle.isodep_link.specs.Sizes.{rats_code, piece_size, ats_frame}
 use Rattle.isodep_link.specs.Blocks.{spelled_block}
 use Rattle.isodep_link.specs.declared.block.Block.{Block}
-use Rattle.isodep_link.specs.Card.{CardState, CardTurn, Does, Stays, Answers, Delivers, Sleeps, framed_does, framed, stays, obeyed, block_table, heeded, card_table}
+use Rattle.isodep_link.specs.Card.{CardState, CardTurn, Does, Stays, Answers, Delivers, Sleeps, framed_does, framed}
+use Rattle.isodep_link.specs.Card.{stays, obeyed, block_table, heeded, card_table}
 use Rattle.bench_devices.specs.Cards.{T4Near, card_now}
 use Rattle.bench_devices.specs.Device.{says_of, t2_machine, by_card, on_link, did_if, t4_did, t4_machine}
 use Rattle.bench_devices.specs.laws.LinkCalls.{says_at, did_at_call}
@@ -55,7 +57,8 @@ own_heads false true c d = refl
 own_heads false false c d = refl
 
 own_frame : (f : Signal) → is_some (spelled_command f) ≡ is_t2_frame f
-own_frame f = own_heads (is_headed 2 0x30 f) (is_headed 6 0xA2 f) (Read (slice_index f.bytes 1)) (Write (slice_index f.bytes 1) (drop 2 f.bytes))
+own_frame f = own_heads (is_headed 2 0x30 f) (is_headed 6 0xA2 f) (Read (slice_index f.bytes 1))
+    (Write (slice_index f.bytes 1) (drop 2 f.bytes))
 
 taken_t2 : (u : T2Memory) (c : Option T2Command) → is_taken (says_of (reply_frame u c)) ≡ is_some c
 taken_t2 u None = refl
@@ -74,11 +77,13 @@ answer_tech Refused = refl
 tech_in : (g h : Signal) → h.tech ≡ A → Some h ≡ Some g → g.tech ≡ A
 tech_in g h t e = let same : h ≡ g = cc in ap (λ f. f.tech) (sym same) ∙ t
 
-t2_tech : (u : T2Memory) (c : Option T2Command) (g : Signal) → answer_in (says_of (reply_frame u c)) ≡ Some g → g.tech ≡ A
+t2_tech : (u : T2Memory) (c : Option T2Command) (g : Signal) → answer_in (says_of (reply_frame u c)) ≡ Some g
+    → g.tech ≡ A
 t2_tech u None g e = absurd cc
 t2_tech u (Some c) g e = tech_in g (answer_frame (t2_reply u c)) (answer_tech (t2_reply u c)) e
 
-written_locks : (u : T2Memory) (v : Bool) (store : List ℕ) → (if v then record u { store = store } else u).locked ≡ u.locked
+written_locks : (u : T2Memory) (v : Bool) (store : List ℕ)
+    → (if v then record u { store = store } else u).locked ≡ u.locked
 written_locks u true store = refl
 written_locks u false store = refl
 
@@ -130,11 +135,13 @@ foreign_if : (u : T4Near) (f : Signal) (v : Bool) → (did_if v u f).says ≡ st
 foreign_if u f true h = absurd (not_foreign (on_link u.tag (card_now u) f).says (takes_if u f true) h)
 foreign_if u f false h = refl
 
-opens_if : (u : T4Near) (f : Signal) (v : Bool) → is_taken (did_if v u f).says ≡ true → is_linked (did_if v u f).after ≡ true
+opens_if : (u : T4Near) (f : Signal) (v : Bool) → is_taken (did_if v u f).says ≡ true
+    → is_linked (did_if v u f).after ≡ true
 opens_if u f true h = link_stays u.tag (card_table (card_now u) f).state (card_table (card_now u) f).does
 opens_if u f false h = absurd cc
 
-silent_t4 : (u : T4Near) (f : Signal) (c : Call) → u.linked ≡ true → call_of f ≡ Calls c → (t4_did u f).says ≡ steps.Quiet
+silent_t4 : (u : T4Near) (f : Signal) (c : Call) → u.linked ≡ true → call_of f ≡ Calls c
+    → (t4_did u f).says ≡ steps.Quiet
 silent_t4 u f c o e = ap (λ d. d.says) (did_at_call u f (call_begins f c e)) ∙ ap says_at o
 
 -- what the card's end says is a block or ATS, an NFC-A frame
@@ -150,7 +157,11 @@ framed_tech (Answers b) = refl
 framed_tech (Delivers xs) = refl
 framed_tech (Sleeps b) = refl
 
-begun_tech : (t : CardState) (code : ℕ) (v : Bool) → tech_of_step (if v then framed (stays t) else record { state = record t { most = piece_size code }; does = card.Reply (ats_frame t.code) }).does ≡ A
+begun_tech : (t : CardState) (code : ℕ) (v : Bool) → tech_of_step
+    (if v then framed (stays t) else record {
+      state = record t { most = piece_size code };
+      does = card.Reply (ats_frame t.code);
+    }).does ≡ A
 begun_tech t code true = refl
 begun_tech t code false = refl
 
@@ -162,21 +173,25 @@ heeded_tech : (t : CardState) (code : Option ℕ) (b : Option Block) → tech_of
 heeded_tech t (Some code) b = begun_tech t code t.begun
 heeded_tech t None b = obeyed_tech t b
 
-muted_tech : (t : CardState) (turn : CardTurn) (v : Bool) → tech_of_step turn.does ≡ A → tech_of_step (if v then framed (stays t) else turn).does ≡ A
+muted_tech : (t : CardState) (turn : CardTurn) (v : Bool) → tech_of_step turn.does ≡ A
+    → tech_of_step (if v then framed (stays t) else turn).does ≡ A
 muted_tech t turn true h = refl
 muted_tech t turn false h = h
 
 table_tech : (t : CardState) (f : Signal) → tech_of_step (card_table t f).does ≡ A
-table_tech t f = muted_tech t (heeded t (rats_code f) (spelled_block f)) t.mute (heeded_tech t (rats_code f) (spelled_block f))
+table_tech t f = muted_tech t (heeded t (rats_code f) (spelled_block f)) t.mute
+    (heeded_tech t (rats_code f) (spelled_block f))
 
-card_tech : (tag : t4.T4State) (t : CardState) (does : CardStep) (g : Signal) → tech_of_step does ≡ A → answer_in (by_card tag t does).says ≡ Some g → g.tech ≡ A
+card_tech : (tag : t4.T4State) (t : CardState) (does : CardStep) (g : Signal) → tech_of_step does ≡ A
+    → answer_in (by_card tag t does).says ≡ Some g → g.tech ≡ A
 card_tech tag t card.Quiet g h e = absurd cc
 card_tech tag t (card.Reply f) g h e = tech_in g f h e
 card_tech tag t (card.Deliver command) g h e = tech_in g _ refl e
 card_tech tag t (card.Asleep f) g h e = tech_in g f h e
 
 tech_if : (u : T4Near) (f g : Signal) (v : Bool) → answer_in (did_if v u f).says ≡ Some g → g.tech ≡ A
-tech_if u f g true e = card_tech u.tag (card_table (card_now u) f).state (card_table (card_now u) f).does g (table_tech (card_now u) f) e
+tech_if u f g true e = card_tech u.tag (card_table (card_now u) f).state (card_table (card_now u) f).does g
+    (table_tech (card_now u) f) e
 tech_if u f g false e = absurd cc
 
 -- the code of a tag stays, and with it its step on commands
@@ -201,6 +216,7 @@ t4_upper = record {
   waits = λ u f payload h. absurd cc;
   bounded = λ u f payload h. absurd cc;
   own_tech = λ u f g reply e. tech_if u f g (u.linked || is_rats f) e;
-  step_keeps = λ u f reply. record { same_kind = refl; same_commands = ap t4_link_step (code_if u f (u.linked || is_rats f)) };
+  step_keeps =
+      λ u f reply. record { same_kind = refl; same_commands = ap t4_link_step (code_if u f (u.linked || is_rats f)) };
   clear_keeps = λ u. (record { same_kind = refl; same_commands = refl }, refl);
 }

@@ -58,8 +58,8 @@ pub record IsNewLink (p : IsoSeen Device) : Type 0 where
   pub last : p.last ≡ None
   pub over : p.over ≡ None
 
--- The Type 4 tag that was selected as this device stands at a place of a lit field, in step with this reader, and holds what it
--- held.
+-- The Type 4 tag that was selected as this device stands at a place of a lit field, in step with this reader, and holds
+-- what it held.
 pub record Linked (d : Device) (air : Air Device) (place : ℕ) (reader : ReaderState) : Type 0 where
   pub activated : IsActivated ghosts device_card device_tag air place reader
   pub same : kept activated.has.listener ≡ kept d
@@ -67,21 +67,25 @@ pub record Linked (d : Device) (air : Air Device) (place : ℕ) (reader : Reader
   pub sound : IsSound (kept d)
   pub lit : air.lit ≡ true
 
--- A command asked all that it asks of an activated tag, up to a break or the sixth bad reception of a wait, and tells what came of it.
-abbrev pub AsksOn : {X : Type 0} → Changes → (List Signal → Type 0) → (X → Type 0) → (AskFault → X → Type 0) → ReaderState
+-- A command asked all that it asks of an activated tag, up to a break or the sixth bad reception of a wait, and tells
+-- what came of it.
+abbrev pub AsksOn : {X : Type 0} → Changes → (List Signal → Type 0) → (X → Type 0) → (AskFault → X → Type 0)
+    → ReaderState
     → Moment (World Device) → Moment (World Device) → X → Type 0
 AsksOn what IsAll Tells Fails reader old new x =
     AsksTag what IsAll (λ commands. iso_next reader (bytes_of commands))
     (λ commands ns. TellsExchange Tells Fails (stand (exchange.asks reader (bytes_of commands)) ns)) Fails old new x
 
 -- So far it came, until memory was wanting.
-abbrev pub AsksSomeOn : Changes → (List Signal → Type 0) → ReaderState → Moment (World Device) → Moment (World Device) → Type 0
+abbrev pub AsksSomeOn : Changes → (List Signal → Type 0) → ReaderState → Moment (World Device) → Moment (World Device)
+    → Type 0
 AsksSomeOn what IsAll reader old new =
     AsksSome what IsAll (λ commands. iso_next reader (bytes_of commands))
     (λ commands ns. IsUnbrokenExchange (stand (exchange.asks reader (bytes_of commands)) ns)) old new
 
 -- so reading did
-abbrev pub ReadsOn : Moment (World Device) → Moment (World Device) → Device → ReaderState → Result Found ReadFault → Type 0
+abbrev pub ReadsOn : Moment (World Device) → Moment (World Device) → Device → ReaderState → Result Found ReadFault
+    → Type 0
 ReadsOn old new d reader r = AsksOn NoStore (AsksOf d) (ShowsOf d) FailsRead reader old new r
 
 abbrev pub ReadsSomeOn : Moment (World Device) → Moment (World Device) → Device → ReaderState → Type 0
@@ -97,11 +101,13 @@ ReadsLinked air place reader new r =
     (r ≡ Err faults.Memory → ⊥) → (d : Device) → Linked d air place reader → ReadsOn (moment air) new d reader r
 
 -- So writing did, its tag's stores keeping the law.
-pub record WritesOn (old new : Moment (World Device)) (d : Device) (reader : ReaderState) (message : List ℕ) (r : WriteEnd) : Type 0 where
+pub record WritesOn (old new : Moment (World Device)) (d : Device) (reader : ReaderState) (message : List ℕ)
+    (r : WriteEnd) : Type 0 where
   pub told : AsksOn (StoreOf (device_id d)) (AsksWriteOf message d) (ShowsWrite message d) FailsWrite reader old new r
   pub law : KeepsWriteLaw message d (ending_of r) old.world told.asked.going.events
 
-pub record WritesSomeOn (old new : Moment (World Device)) (d : Device) (reader : ReaderState) (message : List ℕ) : Type 0 where
+pub record WritesSomeOn (old new : Moment (World Device)) (d : Device) (reader : ReaderState) (message : List ℕ)
+    : Type 0 where
   pub told : AsksSomeOn (StoreOf (device_id d)) (AsksWriteOf message d) reader old new
   pub law : KeepsWriteLaw message d Stopped old.world told.asked.going.events
 
@@ -111,4 +117,5 @@ CutLinkedWrite air place reader new message r =
 
 abbrev pub WritesLinked : Air Device → ℕ → ReaderState → Moment (World Device) → List ℕ → WriteEnd → Type 0
 WritesLinked air place reader new message r =
-    (r ≡ Err writing.Memory → ⊥) → (d : Device) → Linked d air place reader → WritesOn (moment air) new d reader message r
+    (r ≡ Err writing.Memory → ⊥) → (d : Device) → Linked d air place reader
+    → WritesOn (moment air) new d reader message r

@@ -1,7 +1,8 @@
 //! Words of one kind in a row, up to the end of a line.
 
 ghost use Rattle.std.specs.Prelude.{◌≡◌, ◌<◌, IfOk, IsErrOf};
-ghost use Rattle.bench_script.specs.Script.{words_of, SpellsPayload, SpellPayloads, SpellsFrame, SpellFrames, SpellsSlotPut, SpellRow, SpellPuts, most_puts};
+ghost use Rattle.bench_script.specs.Script.{words_of, SpellsPayload, SpellPayloads, SpellsFrame, SpellFrames};
+ghost use Rattle.bench_script.specs.Script.{SpellsSlotPut, SpellRow, SpellPuts, most_puts};
 ghost use Rattle.bench_script.specs.private.Words.{NoneOf, CutsTail};
 
 use super::LineFault;
@@ -135,7 +136,8 @@ pub fn put_words(alloc: Global, text: &[u8]) -> Result<Items<SlotPut>, LineFault
 /// The puts that the words of a text spell, of whichever clients.
 fn slot_put_words(alloc: Global, text: &[u8]) -> Result<Items<SlotPut>, LineFault>
     ensures ok { IfOk result (SpellRow SpellsSlotPut 1 most_puts (words_of text.now)) }
-    ensures refused { IsErrOf result LineFault.Refused → NoneOf (SpellRow SpellsSlotPut 1 most_puts (words_of text.now)) }
+    ensures refused { IsErrOf result LineFault.Refused → NoneOf
+        (SpellRow SpellsSlotPut 1 most_puts (words_of text.now)) }
 {
     let mut puts = Vec::new(alloc);
     let mut left = text;

@@ -6,10 +6,14 @@ ghost use Rattle.std.specs.List.{list_all};
 ghost use Rattle.nfc_base.specs.declared.event.Fate.{Fate as Becomes};
 ghost use Rattle.std.specs.Option.{option_copied};
 ghost use Rattle.std.specs.Fmt.{decimal};
-ghost use Rattle.bench_script.specs.Script.{words_of, SpellsHex, SpellsIdent, SpellsIdV, SpellsId, SpellsWithin, SpellsSize, SpellsCode, SpellsBlock, fate_letter, SpellsFates, SpellsCounted, SpellsMsg, SpellsName};
+ghost use Rattle.bench_script.specs.Script.{words_of, SpellsHex, SpellsIdent, SpellsIdV, SpellsId, SpellsWithin};
+ghost use Rattle.bench_script.specs.Script.{SpellsSize, SpellsCode, SpellsBlock, fate_letter, SpellsFates};
+ghost use Rattle.bench_script.specs.Script.{SpellsCounted, SpellsMsg, SpellsName};
 ghost use Rattle.bench_script.specs.declared.command.DeviceId.{DeviceId as Named};
 ghost use Rattle.bench_script.specs.declared.script.words.CommandName.{CommandName as Names};
-ghost use Rattle.bench_script.specs.private.Words.{CutsWord, NoneOf, AreThree, AreFour, AreFive, NotOne, NotTwo, NotThree, NotFour, NotFive, HasNoColon, IsCutAtColon, SpellsNoCount, SpellsNoHex, name_text};
+ghost use Rattle.bench_script.specs.private.Words.{CutsWord, NoneOf, AreThree, AreFour, AreFive, NotOne, NotTwo};
+ghost use Rattle.bench_script.specs.private.Words.{NotThree, NotFour, NotFive, HasNoColon, IsCutAtColon, SpellsNoCount};
+ghost use Rattle.bench_script.specs.private.Words.{SpellsNoHex, name_text};
 
 use super::LineFault;
 use crate::command::DeviceId;

@@ -37,7 +37,8 @@ use Rattle.bench_world.specs.World.{FarEnd, Stable, WholeWorld, stable}
 use Rattle.bench_world.specs.Writing.{KeepsStores, TellsWrite, ending_told}
 use Rattle.bench_world.proofs.alike.AlikeDevices.{SameDevice, all_keep_same, if_same, of_same, same_memory, same_tag, same_with}
 use Rattle.bench_world.proofs.alike.AlikeEnds.{begins_same, rest, same_inbox, same_numbered, same_placed}
-use Rattle.bench_world.proofs.alike.AlikeTells.{by_kept, find_same, forge_same, link_same, raw_same, tag_same, tags_same, tells_read3_same, tells_same, tells_write3_same, tells_write_same, three_tells_same, threes_same}
+use Rattle.bench_world.proofs.alike.AlikeTells.{by_kept, find_same, forge_same, link_same, raw_same, tag_same, tags_same, tells_read3_same, tells_same, tells_write3_same, tells_write_same}
+use Rattle.bench_world.proofs.alike.AlikeTells.{three_tells_same, threes_same}
 use Rattle.bench_world.proofs.alike.AlikeChanged.{no_link, changed_world, link_after_same}
 use Rattle.bench_world.proofs.alike.AlikeFronts.{was_sent, world_after_same, worlds_after}
 use Rattle.bench_world.proofs.alike.AlikeWorlds.{FromReset, SameWorld, same_images, same_stable}

@@ -92,7 +92,8 @@ module _ {A : Type 0} (restarts : A → List ℕ → A → Type 0) (steps : A �
       subst (λ ms. AllStayDevices (l ∷ ls) ms) (sym h.8)
       (subst (λ m. StaysDevice l m) (sym h.5.left) (stays_any f h.5.reply l), heard_stay f ls h.3 h.1 h.4 far' h.6)
 
-  turn_by_stays : (x : Fate) (old : Air Device) (f : Signal) (far : A) (heard : Option Heard) (new : Air Device) (far' : A) → TurnBy devices restarts steps x old f far heard new far' → AllStayDevices old.listeners new.listeners
+  turn_by_stays : (x : Fate) (old : Air Device) (f : Signal) (far : A) (heard : Option Heard) (new : Air Device) (far' : A) → TurnBy devices restarts steps x old f far heard new far'
+      → AllStayDevices old.listeners new.listeners
   turn_by_stays Pass old f far heard new far' p =
       let half : Air Device = after_event old (Request f Pass) (later_fates old.fates) (record { lit = true; listeners = p.listeners }) in
       subst (λ (a : Air Device). AllStayDevices old.listeners a.listeners) (sym p.left)
@@ -102,7 +103,8 @@ module _ {A : Type 0} (restarts : A → List ℕ → A → Type 0) (steps : A �
   turn_by_stays Lose old f far heard new far' p = subst (λ (a : Air Device). AllStayDevices old.listeners a.listeners) (sym p.left) (event_stays (world old) (Request f Lose))
   turn_by_stays Break old f far heard new far' p = subst (λ (a : Air Device). AllStayDevices old.listeners a.listeners) (sym p.left) (event_stays (world old) (Request f Break))
 
-  turn_stays : (old : Air Device) (f : Signal) (far : A) (heard : Option Heard) (new : Air Device) (far' : A) → TurnIs devices restarts steps old f far heard new far' → AllStayDevices old.listeners new.listeners
+  turn_stays : (old : Air Device) (f : Signal) (far : A) (heard : Option Heard) (new : Air Device) (far' : A) → TurnIs devices restarts steps old f far heard new far'
+      → AllStayDevices old.listeners new.listeners
   turn_stays old f far heard new far' t = turn_by_stays (first_fate old.fates) old f far heard new far' t.by
 
   -- So one device at most hands something over in them: the peer at its place.
@@ -112,8 +114,11 @@ module _ {A : Type 0} (restarts : A → List ℕ → A → Type 0) (steps : A �
         → AllQuietBut devices device_linked peer_ends restarts steps next place seen old far ns new after d
     turns_quiet [] seen old far new after d quiet = tt
     turns_quiet (n ∷ ns) seen old far new after (f, h, mid, half, due, known, turn, rest) quiet =
-        let stay : AllStayDevices old.listeners mid.listeners = turn_stays old f far h mid half turn in
-        (quiet old.listeners f refl refl, turns_quiet ns (seen ++ n ∷ []) mid half new after rest (λ ls g count at. quiet ls g (count ∙ count_stays old.listeners mid.listeners stay) (at ∙ place_stays old.listeners mid.listeners stay)))
+        let stay : AllStayDevices old.listeners mid.listeners = turn_stays old f far h mid half turn in (
+          quiet old.listeners f refl refl,
+          turns_quiet ns (seen ++ n ∷ []) mid half new after rest
+              (λ ls g count at. quiet ls g (count ∙ count_stays old.listeners mid.listeners stay) (at ∙ place_stays old.listeners mid.listeners stay)),
+        )
 
 -- where nobody hands anything over, nobody does but the one at whatever place
 pub each_but : (f : Signal) (ls : List Device) (place : ℕ) → EachQuiet devices f ls → QuietBut devices f place ls
@@ -122,7 +127,8 @@ each_but f (l ∷ ls) zero q = q.1
 each_but f (l ∷ ls) (suc place) q = (q.0, each_but f ls place q.1)
 
 -- What the end of a peer keeps: its MIU, its window, its names, its limit and its table.
-did_set : (u : FarUse) (old : Choosing FarEnd) (reply : Option (List ℕ)) (new : Choosing FarEnd) → FarDid (RestartsCounted serving) (AnswersCounted serving) u old reply new → setting_of new.end ≡ setting_of old.end
+did_set : (u : FarUse) (old : Choosing FarEnd) (reply : Option (List ℕ)) (new : Choosing FarEnd) → FarDid (RestartsCounted serving) (AnswersCounted serving) u old reply new
+    → setting_of new.end ≡ setting_of old.end
 did_set Untouched old reply new d = ap (λ (c : Choosing FarEnd). setting_of c.end) d.0
 did_set (Restarts general) old reply new d = ap (λ (c : Choosing FarEnd). setting_of c.end) d.0
 did_set (Hands payload) old reply new d = answers_is (setting_of old.end) (first_number old.numbers) old.end payload d.0 new.end d.1.answers refl

@@ -120,7 +120,8 @@ module _ (f : Signal) where
       by_tag true t = record { tag = t; others = none_behind (peer_place ls) (sym (ap (λ b. if b then option_map suc (peer_place ls) else Some 0) t) ∙ e) }
       by_tag false t = absurd (let clash : Some 0 ≡ None = sym (ap (λ b. if b then option_map suc (peer_place ls) else Some 0) t) ∙ e in cc)
 
-  none_met : (ls : List Device) (os : List (Option FarEnd)) (ns : List ℕ) → length os ≡ length ls → peer_place ls ≡ None → map held (all_meet devices device_linked peer_ends f ls os ns).fars ≡ map held os
+  none_met : (ls : List Device) (os : List (Option FarEnd)) (ns : List ℕ) → length os ≡ length ls → peer_place ls ≡ None
+      → map held (all_meet devices device_linked peer_ends f ls os ns).fars ≡ map held os
   none_met [] [] ns long none = refl
   none_met [] (o ∷ os) ns long none = absurd cc
   none_met (l ∷ ls) [] ns long none = absurd cc
@@ -164,7 +165,8 @@ module _ (f : Signal) where
                 ∙ ap (λ k. adding_at rest.0 k (held o ∷ map held os)) same,
           )
 
-      by_tag : (v : Bool) → is_tag l ≡ v → LaterGrows ls os → (more : List Accepted) × (map held (all_meet devices device_linked peer_ends f (l ∷ ls) (o ∷ os) ns).fars ≡ adding_at more place (held o ∷ map held os))
+      by_tag : (v : Bool) → is_tag l ≡ v → LaterGrows ls os
+          → (more : List Accepted) × (map held (all_meet devices device_linked peer_ends f (l ∷ ls) (o ∷ os) ns).fars ≡ adding_at more place (held o ∷ map held os))
       by_tag true t later = behind later t (peer_place ls) (found true t) refl
       by_tag false t later =
           let here : 0 ≡ place = (let e : Some 0 ≡ Some place = found false t in cc) in

@@ -53,7 +53,8 @@ mute_rests : (frames : List Signal) (ns : List _) (mid new : Air Device) (half a
 mute_rests frames ns mid new half after (inl same) = same.0
 mute_rests frames ns mid new half after (inr (f, due, h)) = absurd (rests_there devices mute_restarts mute_steps (λ old payload new. ⊥) (λ far. false) never_stops mid f half new after h)
 
-counted_of : (a : Choosing FarEnd) (old new : Air Device) (far after : Mute) (frames : List Signal) (came : HeardEach) → peer_place old.listeners ≡ None → SendsMuted old far frames new after came → SendsCounted old a frames new a came
+counted_of : (a : Choosing FarEnd) (old new : Air Device) (far after : Mute) (frames : List Signal) (came : HeardEach) → peer_place old.listeners ≡ None → SendsMuted old far frames new after came
+    → SendsCounted old a frames new a came
 counted_of a old new far after frames (Ok heard) none x = record {
   notes = x.notes;
   mid = x.mid;
@@ -221,7 +222,8 @@ module _ (m : Machines) (settled : IsSettled m) (unlinked : m.link ≡ None) (id
             let range : LinkRange = record { peer = n; start = length far.service.accepted; end = Some (length x.after.end.service.accepted) } in
             all_of (under (slice_set m.ends place (Some x.after.end)) (with_link range m.peers) None x.air) now (told_each got)
             (ap (λ l. under (slice_set m.ends place (Some x.after.end)) (with_link range m.peers) l x.air) (sym unlinked) ∙ left_is (Ok got) is)
-            (peer_outcome m.ends m.peers m.air id frames counts settled.idle there may_here mid place s peer far served.stands x.sends.mid x.sends.half x.sends.came asked p came n served.numbered got x.air x.after b)
+            (peer_outcome m.ends m.peers m.air id frames counts settled.idle there may_here mid place s peer far served.stands x.sends.mid x.sends.half x.sends.came asked p came n served.numbered got
+            x.air x.after b)
 
         abbrev unopened : Air Device → FarEnd → Machines
         unopened air after = under (slice_set m.ends place (Some after)) m.peers None air
@@ -233,17 +235,26 @@ module _ (m : Machines) (settled : IsSettled m) (unlinked : m.link ≡ None) (id
 
         by_cause : (why : EndCause) → x.sends.came ≡ Err why → x.sent ≡ Err why → x.air ≡ x.sends.mid → x.after ≡ x.sends.half → All now (told_raw (Err why))
         by_cause causes.FieldLost came is same after =
-            all_of (unopened x.sends.mid x.sends.half.end) now (Ok (answers.LinkEnded losses.FieldLost)) (unopened_is causes.FieldLost is same after)
-            (ended_raw m.ends m.peers m.air id frames counts settled.idle there may_here mid place s peer far served.stands x.sends.mid x.sends.half x.sends.came asked causes.FieldLost (answers.LinkEnded losses.FieldLost) came refl, tt, tt)
+            all_of (unopened x.sends.mid x.sends.half.end) now (Ok (answers.LinkEnded losses.FieldLost)) (unopened_is causes.FieldLost is same after) (
+              ended_raw m.ends m.peers m.air id frames counts settled.idle there may_here mid place s peer far served.stands x.sends.mid x.sends.half x.sends.came asked causes.FieldLost
+                  (answers.LinkEnded losses.FieldLost) came refl,
+              tt,
+              tt,
+            )
         by_cause causes.SixBad came is same after =
-            all_of (unopened x.sends.mid x.sends.half.end) now (Ok (answers.LinkEnded losses.SixBad)) (unopened_is causes.SixBad is same after)
-            (ended_raw m.ends m.peers m.air id frames counts settled.idle there may_here mid place s peer far served.stands x.sends.mid x.sends.half x.sends.came asked causes.SixBad (answers.LinkEnded losses.SixBad) came refl, tt, tt)
+            all_of (unopened x.sends.mid x.sends.half.end) now (Ok (answers.LinkEnded losses.SixBad)) (unopened_is causes.SixBad is same after) (
+              ended_raw m.ends m.peers m.air id frames counts settled.idle there may_here mid place s peer far served.stands x.sends.mid x.sends.half x.sends.came asked causes.SixBad
+                  (answers.LinkEnded losses.SixBad) came refl,
+              tt,
+              tt,
+            )
         by_cause causes.Protocol came is same after = absurd (subst (OpeningEnds x.sends.mid place s.device) came asked.ends)
         by_cause causes.Memory came is same after =
             all_of (unopened x.sends.mid x.sends.half.end) now (Err faults.Memory) (unopened_is causes.Memory is same after)
             (tt, inl (unopened_cut_raw m.ends m.peers m.air id frames counts settled.idle there may_here mid place s peer far served.stands x.sends.mid x.sends.half x.sends.came asked came), refl)
 
-        by_sent : (came : Result (InitState × ArrayVec ℕ) EndCause) (sent : SentRaw) → x.sends.came ≡ came → x.sent ≡ sent → RawBehind frames x.sends.mid x.sends.half came x.air x.after sent → All now (told_raw sent)
+        by_sent : (came : Result (InitState × ArrayVec ℕ) EndCause) (sent : SentRaw) → x.sends.came ≡ came → x.sent ≡ sent → RawBehind frames x.sends.mid x.sends.half came x.air x.after sent
+            → All now (told_raw sent)
         by_sent (Ok p) (Ok got) came is b = opened p got came is b
         by_sent (Ok p) (Err why) came is b = absurd b
         by_sent (Err why) sent came is (sent_is, same, after) = subst (λ z. All now (told_raw z)) (sym sent_is) (by_cause why came (is ∙ sent_is) same after)

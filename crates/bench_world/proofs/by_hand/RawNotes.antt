@@ -70,7 +70,8 @@ unlinked_by kind frames (polls.Asks n) h = refl
 unlinked_by kind frames (Told (Ok x) ns) h = ap (raw_linked frames (kind x)) h ∙ none_linked frames (kind x)
 unlinked_by kind frames (Told (Err e) ns) h = refl
 
-a_unlinked : (id : List ℕ) (frames : List Signal) (a b : Moment (World Device)) (ns : List Note) → Going air (λ ks. asks (selecting (A id) ks)) a b ns → raw_linked_then frames (selecting (A id) ns) ≡ false
+a_unlinked : (id : List ℕ) (frames : List Signal) (a b : Moment (World Device)) (ns : List Note) → Going air (λ ks. asks (selecting (A id) ks)) a b ns
+    → raw_linked_then frames (selecting (A id) ns) ≡ false
 a_unlinked id frames a b ns g =
     let closes : Closes (picking id) = search_closes (device_of id) in
     let same : (ks : List Note) → asks (selecting (A id) ks) ≡ enquiring (picking id) ks = λ ks. kind_asks seen_kind (follows (picking id) ks) ∙ asks_same (picking id) closes ks in
@@ -97,7 +98,8 @@ v_unlinked id frames (Lit ∷ ns) = five_unlinked frames (follows (picking_v id)
 v_unlinked id frames (Got h ∷ ns) = refl
 v_unlinked id frames (Lost ∷ ns) = refl
 
-pub selecting_unlinked : (id : DeviceId) (frames : List Signal) (a b : Moment (World Device)) (ns : List Note) → Going air (λ ks. asks (selecting id ks)) a b ns → raw_linked_then frames (selecting id ns) ≡ false
+pub selecting_unlinked : (id : DeviceId) (frames : List Signal) (a b : Moment (World Device)) (ns : List Note) → Going air (λ ks. asks (selecting id ks)) a b ns
+    → raw_linked_then frames (selecting id ns) ≡ false
 selecting_unlinked (A id) frames a b ns g = a_unlinked id frames a b ns g
 selecting_unlinked (V id) frames a b ns g = v_unlinked id frames ns
 
@@ -150,7 +152,8 @@ module _ (frames : List Signal) where
   stays_unopened ns d = unopened ns [] 0 (λ xs. refl) d
 
   -- Where ATR_RES came the frames are sent.
-  by_told : (ns before : List Note) (b : ℕ) (f : Signal) (p : InitState × ArrayVec ℕ) (o : Option (ℕ × ArrayVec ℕ)) → stand 0 (atr ∷ []) ns ≡ Asking b [] → ns ≡ before ++ Got (Whole f) ∷ [] → told_atr (spelled f) ≡ o
+  by_told : (ns before : List Note) (b : ℕ) (f : Signal) (p : InitState × ArrayVec ℕ) (o : Option (ℕ × ArrayVec ℕ)) → stand 0 (atr ∷ []) ns ≡ Asking b [] → ns ≡ before ++ Got (Whole f) ∷ []
+      → told_atr (spelled f) ≡ o
       → Ok p ≡ told_initiator o → raw_stand frames (Activates 0) ns ≡ Sends [] frames
   by_told ns before b f p None at split told is = absurd cc
   by_told ns before b f p (Some q) at split told is = link_opened frames ns before b f q at split told

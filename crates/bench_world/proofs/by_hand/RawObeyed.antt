@@ -56,7 +56,8 @@ use Rattle.bench_world.specs.Linking.{IsFieldLost}
 use Rattle.bench_world.specs.Obeying.{Machines, HasPlaces, ObeyedBy, state_at, under}
 use Rattle.bench_world.specs.Peers.{Peers, next_number}
 use Rattle.bench_world.specs.private.RawAt.{HeardEach, RawStops, SendsCounted, frames_due, is_end_stuck, told_each}
-use Rattle.bench_world.specs.Rawing.{Rawing, Activates, Dark, Sends, Strays, Unlinked, raw_noted, are_sent, raw_behind, raw_due, raw_first, raw_linked, raw_linked_then, raw_opens, raw_stand, rawing, then_raws, told_rawing}
+use Rattle.bench_world.specs.Rawing.{Rawing, Activates, Dark, Sends, Strays, Unlinked, raw_noted, are_sent, raw_behind, raw_due, raw_first, raw_linked, raw_linked_then, raw_opens, raw_stand, rawing}
+use Rattle.bench_world.specs.Rawing.{then_raws, told_rawing}
 use Rattle.bench_world.specs.World.{FarEnd, WholeWorld, bench_air}
 use Rattle.bench_world.proofs.open_link.CallNotes.{broken_known, known_broken}
 use Rattle.bench_world.proofs.devices.FarStays.{StayAll}
@@ -72,7 +73,8 @@ use Rattle.bench_world.proofs.by_hand.RawParts.{Shows, stay_long}
 use Rattle.bench_world.proofs.open_link.Restarted.{first_of, set_there}
 
 -- nothing is done where nothing is asked
-did_nothing : (u : FarUse) (old : Choosing FarEnd) (reply : Option (List ℕ)) (new : Choosing FarEnd) → u ≡ Untouched → FarDid (RestartsCounted serving) (AnswersCounted serving) u old reply new → (new ≡ old) × (reply ≡ None)
+did_nothing : (u : FarUse) (old : Choosing FarEnd) (reply : Option (List ℕ)) (new : Choosing FarEnd) → u ≡ Untouched → FarDid (RestartsCounted serving) (AnswersCounted serving) u old reply new
+    → (new ≡ old) × (reply ≡ None)
 did_nothing u old reply new e d = subst (λ v. FarDid (RestartsCounted serving) (AnswersCounted serving) v old reply new) e d
 
 -- A far end that stopped at a frame: it is that of the device at its place.
@@ -145,7 +147,8 @@ module _ (ends : Ends) (peers : Peers) (old : Air Device) (id : DeviceId) (frame
   -- A device was selected, and if it is a peer activated, which tells these notes and leaves the far end so; from then on the frames are due.
   module _ (place : ℕ) (far : FarEnd) (shows : Shows ends peers old id frames counts idle places may place far) (one : Air Device) (half : Choosing FarEnd) (first behind : List Note) (kind : SeenKind)
       (opening : FarGoing devices device_linked peer_ends (linking id forged_general) (moment old) (moment one) first place ends (at_first far) half) (set_one : setting_of half.end ≡ setting_of far)
-      (selected_on : (ks : List Note) → selecting id (first ++ ks) ≡ Told (Ok kind) (behind ++ ks)) (stood : raw_behind frames kind behind ≡ Sends [] frames) (none : 0 < breaks opening.events → ⊥) where
+      (selected_on : (ks : List Note) → selecting id (first ++ ks) ≡ Told (Ok kind) (behind ++ ks)) (stood : raw_behind frames kind behind ≡ Sends [] frames)
+      (none : 0 < breaks opening.events → ⊥) where
     behind_is : (ks : List Note) → raw_behind frames kind (behind ++ ks) ≡ raw_stand frames (Sends [] frames) ks
     behind_is ks = stands_on frames behind ks (raw_first kind frames) ∙ ap (λ x. raw_stand frames x ks) stood
 
@@ -172,13 +175,15 @@ module _ (ends : Ends) (peers : Peers) (old : Air Device) (id : DeviceId) (frame
       module _ (new : Air Device) (after : Choosing FarEnd) (ns : List Note) (s : Speaks devices (RestartsCounted serving) (AnswersCounted serving) (frames_due frames) one half new after ns) where
         turned : FarGoing devices device_linked peer_ends (frames_due frames) (moment one) (moment new) ns place ends half after
         turned =
-            speaks_far devices device_linked peer_ends (RestartsCounted serving) (AnswersCounted serving) (frames_due frames) place (λ x. x) devices_link ends_table (counted_step serving) one new half after ns s
+            speaks_far devices device_linked peer_ends (RestartsCounted serving) (AnswersCounted serving) (frames_due frames) place (λ x. x) devices_link ends_table (counted_step serving) one new half
+            after ns s
             (turns_quiet (RestartsCounted serving) (AnswersCounted serving) (frames_due frames) place ns [] one half new after s.turns
             (λ ls f count at. shows.quiet ls f (count ∙ count_stays old.listeners one.listeners one_stays.stay) (at ∙ place_stays old.listeners one.listeners one_stays.stay))) ends
 
         whole : FarGoing devices device_linked peer_ends (rawing id frames) (moment old) (moment new) (first ++ ns) place ends (at_first far) after
         whole =
-            far_goes_then devices device_linked peer_ends (rawing id frames) (linking id forged_general) (frames_due frames) (moment old) (moment one) (moment new) first ns place ends (at_first far) half after
+            far_goes_then devices device_linked peer_ends (rawing id frames) (linking id forged_general) (frames_due frames) (moment old) (moment one) (moment new) first ns place ends (at_first far)
+            half after
             (λ ks m h d. opens_then id frames ks m h d) due_is opening turned
 
         new_stays : StayAll old.listeners new.listeners
@@ -236,7 +241,8 @@ module _ (ends : Ends) (peers : Peers) (old : Air Device) (id : DeviceId) (frame
         told_now : (answer : Answer) (x : Rawing) → raw_stand frames (Sends [] frames) ns ≡ x → are_sent x ≡ true → raw_due x ≡ Over → told_rawing x ≡ Some answer → (x ≡ Dark) ↔ IsFieldLost answer
             → (answer ≡ answers.LinkEnded losses.SixBad → ⊥) → ObeyedBy J before N c answer
         told_now answer x at sent over says dark six =
-            parts.obeyed ends peers old id frames counts idle places may new os after.numbers (first ++ ns) on_bench answer (left after.end) (peers_so (ap are_sent at ∙ sent) (Some answer)) (numbers after.end) (gone after.end) (shows.long after.end)
+            parts.obeyed ends peers old id frames counts idle places may new os after.numbers (first ++ ns) on_bench answer (left after.end) (peers_so (ap are_sent at ∙ sent) (Some answer))
+            (numbers after.end) (gone after.end) (shows.long after.end)
             (shows.served new.listeners after.end new_stays.stay set_new) (due_is ns ∙ ap raw_due at ∙ over)
             (record {
               polled = Ok kind;
@@ -253,7 +259,8 @@ module _ (ends : Ends) (peers : Peers) (old : Air Device) (id : DeviceId) (frame
         heard_raw heard at =
             told_now (answers.Heard heard) (Sends heard []) at refl refl refl (
               (λ e. absurd (let clash : Sends heard [] ≡ Dark = e in cc)),
-              (λ l. absurd (elim l [ inl e ↦ (let clash : answers.Heard heard ≡ answers.FieldLost = e in cc) | inr e ↦ (let clash : answers.Heard heard ≡ answers.LinkEnded losses.FieldLost = e in cc) ])),
+              (λ l. absurd
+                  (elim l [ inl e ↦ (let clash : answers.Heard heard ≡ answers.FieldLost = e in cc) | inr e ↦ (let clash : answers.Heard heard ≡ answers.LinkEnded losses.FieldLost = e in cc) ])),
             )
             (λ e. let clash : answers.Heard heard ≡ answers.LinkEnded losses.SixBad = e in cc)
 
@@ -267,7 +274,8 @@ module _ (ends : Ends) (peers : Peers) (old : Air Device) (id : DeviceId) (frame
 
         -- Or the end of the peer at the place stopped.
         module _ (d : Air Device) (stopped : Choosing FarEnd) (f : Signal) (sent : are_sent (raw_stand frames (Sends [] frames) ns) ≡ true) (due : frames_due frames ns ≡ Asks f)
-            (h : Stops devices (RestartsCounted serving) (AnswersCounted serving) (StopsCounted serving) is_end_stuck new f after d stopped) (n : ℕ) (is : (e : FarEnd) → shows.with' e ≡ slice_set ends place (Some e))
+            (h : Stops devices (RestartsCounted serving) (AnswersCounted serving) (StopsCounted serving) is_end_stuck new f after d stopped) (n : ℕ)
+            (is : (e : FarEnd) → shows.with' e ≡ slice_set ends place (Some e))
             (there : get_or ends place None ≡ Some far) (at : peer_place old.listeners ≡ Some place) (numbered : get_or peers.numbers place None ≡ Some n) where
           abbrev request : List Event
           request = Request f Pass ∷ []
@@ -279,7 +287,8 @@ module _ (ends : Ends) (peers : Peers) (old : Air Device) (id : DeviceId) (frame
           same_place = place_stays old.listeners new.listeners new_stays.stay ∙ at
 
           here : HaltsHere place f new.listeners after h.listeners stopped
-          here = some_halts place f new.listeners after h.listeners stopped (shows.quiet new.listeners f (count_stays old.listeners new.listeners new_stays.stay) (place_stays old.listeners new.listeners new_stays.stay)) h.some
+          here = some_halts place f new.listeners after h.listeners stopped (shows.quiet new.listeners f (count_stays old.listeners new.listeners new_stays.stay)
+              (place_stays old.listeners new.listeners new_stays.stay)) h.some
 
           devices_d : d.listeners ≡ halted_at place f new.listeners
           devices_d = ap (λ (a : Air Device). a.listeners) h.left ∙ here.devices_are
@@ -296,7 +305,8 @@ module _ (ends : Ends) (peers : Peers) (old : Air Device) (id : DeviceId) (frame
               let there_now : get_or now place None ≡ Some after.end = set_there ends place far after.end there in
               bare_alike d.listeners new.listeners (shows.with' stopped.end) many_d
               ∙ ap (bare new.listeners) (is stopped.end ∙ sym (set_twice ends place (Some after.end) (Some stopped.end)))
-              ∙ bare_more n place peers.numbers new.listeners now after.end stopped.end front_d.0 (first_of (next_number peers) n place peers.numbers places.apart numbered) (places.numbers ∙ sym many) there_now
+              ∙ bare_more n place peers.numbers new.listeners now after.end stopped.end front_d.0 (first_of (next_number peers) n place peers.numbers places.apart numbered) (places.numbers ∙ sym many)
+              there_now
               (stops_is after.end here.payload stopped.end here.stops) front_d.1
               ∙ ap (λ xs. with_accepted front_d.0 n peers.numbers (bare new.listeners xs)) (sym (is after.end))
 
@@ -306,7 +316,8 @@ module _ (ends : Ends) (peers : Peers) (old : Air Device) (id : DeviceId) (frame
           opens_d : raw_opens id frames d.trace ≡ opened
           opens_d =
               ap (raw_opens id frames) trace_d
-              ∙ ap (λ ks. raw_linked_then frames (selecting id ks)) (receptions-append all request refl ∙ ap (λ ks. ks ++ receptions request) on_bench.known ∙ append_assoc first ns (receptions request))
+              ∙ ap (λ ks. raw_linked_then frames (selecting id ks)) (receptions-append all request refl ∙ ap (λ ks. ks ++ receptions request) on_bench.known
+              ∙ append_assoc first ns (receptions request))
               ∙ linked_is (ns ++ receptions request) ∙ opens (ns ++ receptions request) still_sent
 
           halted : RawHalts J st c d.trace (state_at (under (shows.with' stopped.end) (left stopped.end) None d))
@@ -343,14 +354,17 @@ module _ (ends : Ends) (peers : Peers) (old : Air Device) (id : DeviceId) (frame
       abbrev MayHalt : Type 0
       MayHalt =
           (peer_place old.listeners ≡ None)
-          ⊎ ((n : ℕ) × ((e : FarEnd) → shows.with' e ≡ slice_set ends place (Some e)) × (get_or ends place None ≡ Some far) × (peer_place old.listeners ≡ Some place) × (get_or peers.numbers place None ≡ Some n))
+          ⊎ ((n : ℕ) × ((e : FarEnd) → shows.with' e ≡ slice_set ends place (Some e)) × (get_or ends place None ≡ Some far) × (peer_place old.listeners ≡ Some place)
+          × (get_or peers.numbers place None ≡ Some n))
 
       abbrev pub After : FarEnd → Air Device → Machines
       After e b = under (shows.with' e) (left e) None b
 
-      stopped_so : (new : Air Device) (after : Choosing FarEnd) (mid : Air Device) (end : Choosing FarEnd) (ns : List Note) (s : Speaks devices (RestartsCounted serving) (AnswersCounted serving) (frames_due frames) one half mid end ns)
+      stopped_so : (new : Air Device) (after : Choosing FarEnd) (mid : Air Device) (end : Choosing FarEnd) (ns : List Note)
+          (s : Speaks devices (RestartsCounted serving) (AnswersCounted serving) (frames_due frames) one half mid end ns)
           → are_sent (raw_stand frames (Sends [] frames) ns) ≡ true
-          → LeavesOff devices (RestartsCounted serving) (AnswersCounted serving) (frames_due frames) (StopsCounted serving) is_end_stuck ns mid end new after → MayHalt → RawStops J st c new.trace (state_at (After after.end new))
+          → LeavesOff devices (RestartsCounted serving) (AnswersCounted serving) (frames_due frames) (StopsCounted serving) is_end_stuck ns mid end new after → MayHalt
+          → RawStops J st c new.trace (state_at (After after.end new))
       stopped_so new after mid end ns s sent (inl (same, rests)) may_halt =
           subst (λ (b : Air Device). RawStops J st c b.trace (state_at (After after.end b))) (sym same)
           (subst (λ (e : Choosing FarEnd). RawStops J st c mid.trace (state_at (After e.end mid))) (sym rests) (inl (short_raw mid end ns s sent)))

@@ -163,7 +163,8 @@ module _ (ends : Ends) (peers : Peers) (old : Air Device) (id : DeviceId) (frame
         let many : length new.listeners ≡ length old.listeners = stay_long old.listeners new.listeners stays.stay in
         record { sound = sound_stay old.listeners new.listeners stays.stay idle.tame.sound; few = omega (arith, many, length-map new.listeners kept, length-map old.listeners kept, idle.tame.few) }
 
-    pub obeyed : (answer : Answer) (p : Peers) → p ≡ peers_after st J c es (Some answer) → p.numbers ≡ peers.numbers → p.gone ≡ peers.gone → length os ≡ length ends → AreServed new.listeners peers.numbers os
+    pub obeyed : (answer : Answer) (p : Peers) → p ≡ peers_after st J c es (Some answer) → p.numbers ≡ peers.numbers → p.gone ≡ peers.gone → length os ≡ length ends
+        → AreServed new.listeners peers.numbers os
         → rawing id frames notes ≡ Over → RawTells id old.listeners frames es answer → RawOpensPeer st id frames es → ObeyedBy J before (under os p None new) c answer
     obeyed answer p peers_so numbers gone long served over tells opens =
         let N : Machines = under os p None new in
@@ -217,7 +218,8 @@ module _ (ends : Ends) (peers : Peers) (old : Air Device) (id : DeviceId) (frame
     cut_now = cut_off new ends counts hs quiet peers (none_peers new ends counts hs quiet none_open None) (none_opens new ends counts hs quiet none_open)
 
   -- it wasn't found
-  pub missed_raw : (new : Air Device) (e : PollFault) (answer : Answer) → Selects id (Err e) (moment old) (moment new) → poll_answer e ≡ Some answer → ObeyedBy J before (under ends peers None new) c answer
+  pub missed_raw : (new : Air Device) (e : PollFault) (answer : Answer) → Selects id (Err e) (moment old) (moment new) → poll_answer e ≡ Some answer
+      → ObeyedBy J before (under ends peers None new) c answer
   missed_raw new e answer s is =
       let hs : List Note = s.asked.notes in
       let k : Going air (λ ks. asks (selecting id ks)) (moment old) (moment new) hs = s.asked.going in

@@ -1,5 +1,6 @@
 -- Frames of a script's own are sent to a device that was selected: to a tag, or to a peer, which is activated first.
-use Rattle.std.proofs.Common.{◌≡◌, ◌⊎◌, inr, ℕ, suc, ◌<◌, ◌≤◌, List, [], ◌∷◌, ◌++◌, map, length, Bool, true, false, if◌then◌else◌, Option, Some, None, Result, Ok, Err, refl, sym, ◌∙◌, ap, subst, arith, append_assoc}
+use Rattle.std.proofs.Common.{◌≡◌, ◌⊎◌, inr, ℕ, suc, ◌<◌, ◌≤◌, List, [], ◌∷◌, ◌++◌, map, length, Bool, true, false, if◌then◌else◌, Option, Some, None, Result, Ok, Err, refl, sym, ◌∙◌, ap, subst}
+use Rattle.std.proofs.Common.{arith, append_assoc}
 use Rattle.std.specs.Prelude.{get_or, slice_set, option_map, IfOk}
 use Rattle.std.specs.Prelude.{nat_eq}
 use Rattle.std.specs.Cmp.Lexicographic.{pointwise}
@@ -124,7 +125,8 @@ served_place (d ∷ ds) ps os place at s = by_tag (is_tag d) refl (λ n there. s
         let same : suc n ≡ place = cc in
         subst (λ k. IsServed (get_or ps k None) (get_or os k None)) same (served_later ps os n (later n is))
 
-    by_tag : (v : Bool) → is_tag d ≡ v → ((n : ℕ) → peer_place ds ≡ Some n → IsServed (get_or (later_fars ps) n None) (get_or (later_fars os) n None)) → IsServed (get_or ps place None) (get_or os place None)
+    by_tag : (v : Bool) → is_tag d ≡ v → ((n : ℕ) → peer_place ds ≡ Some n → IsServed (get_or (later_fars ps) n None) (get_or (later_fars os) n None))
+        → IsServed (get_or ps place None) (get_or os place None)
     by_tag true t later = behind later (peer_place ds) (at_by true t) refl
     by_tag false t later =
         let same : 0 ≡ place = (let e : Some 0 ≡ Some place = at_by false t in cc) in
@@ -182,7 +184,8 @@ module _ (ends : Ends) (peers : Peers) (old : Air Device) (id : DeviceId) (frame
     -- the peers are where they were
     both_stay : (peers_in mid.listeners ≡ peers_in old.listeners) × (peer_place mid.listeners ≡ peer_place old.listeners)
     both_stay =
-        subst (λ (w : World Device). (peers_in w.listeners ≡ peers_in old.listeners) × (peer_place w.listeners ≡ peer_place old.listeners)) (sym (ap (λ (m : Moment (World Device)). m.world) chosen.moment))
+        subst (λ (w : World Device). (peers_in w.listeners ≡ peers_in old.listeners) × (peer_place w.listeners ≡ peer_place old.listeners))
+        (sym (ap (λ (m : Moment (World Device)). m.world) chosen.moment))
         (peers_stay (moment old).world chosen.events)
 
     pub same_place : peer_place mid.listeners ≡ peer_place old.listeners
@@ -224,8 +227,10 @@ module _ (ends : Ends) (peers : Peers) (old : Air Device) (id : DeviceId) (frame
           ⊎ ((n : ℕ) × ((e : FarEnd) → shows.with' e ≡ slice_set ends at (Some e)) × (get_or ends at None ≡ Some far) × (peer_place old.listeners ≡ Some at) × (get_or peers.numbers at None ≡ Some n))
           → sent.Outcome ends peers old id frames counts idle places may (under (shows.with' after.end) peers None new) (told_each came)
       tag_outcome came new after x may_halt =
-          sent.outcome ends peers old id frames counts idle places may at far shows mid (at_first far) hs [] (seen_of s.device) tag_opening refl (λ ks. selecting_more id hs ks (Ok (seen_of s.device)) s.selects.told)
-          (tag_first frames s.device tag) tag_none false (λ ks e. tag_unlinked frames s.device ks tag) (λ e. peers) (λ e. absurd (let clash : false ≡ true = e in cc)) (λ e. refl) (λ e. refl) (λ b e long. refl) came new after x may_halt
+          sent.outcome ends peers old id frames counts idle places may at far shows mid (at_first far) hs [] (seen_of s.device) tag_opening refl
+          (λ ks. selecting_more id hs ks (Ok (seen_of s.device)) s.selects.told)
+          (tag_first frames s.device tag) tag_none false (λ ks e. tag_unlinked frames s.device ks tag) (λ e. peers) (λ e. absurd (let clash : false ≡ true = e in cc)) (λ e. refl) (λ e. refl)
+          (λ b e long. refl) came new after x may_halt
 
     -- It is the peer, and ATR_REQ was asked of it.
     module _ (peer : is_tag s.device ≡ false) (far : FarEnd) (there : get_or ends place None ≡ Some far) (one : Air Device) (half : Choosing FarEnd) (came : Result (InitState × ArrayVec ℕ) EndCause)
@@ -241,7 +246,8 @@ module _ (ends : Ends) (peers : Peers) (old : Air Device) (id : DeviceId) (frame
 
       opening : FarGoing devices device_linked peer_ends (linking id forged_general) (moment old) (moment one) (hs ++ o.notes) place ends (at_first far) half × (half.numbers ≡ counts)
       opening =
-          opens_far (RestartsCounted serving) (AnswersCounted serving) peer_ends (λ x. x) ends_table (counted_step serving) id forged_general place s.device came old mid one (at_first far) half hs chosen told s.stands peer o ends
+          opens_far (RestartsCounted serving) (AnswersCounted serving) peer_ends (λ x. x) ends_table (counted_step serving) id forged_general place s.device came old mid one (at_first far) half hs
+          chosen told s.stands peer o ends
 
       abbrev first_notes : List Note
       first_notes = hs ++ o.notes
@@ -263,7 +269,8 @@ module _ (ends : Ends) (peers : Peers) (old : Air Device) (id : DeviceId) (frame
       long_one : length one.listeners ≡ length old.listeners
       long_one = stay_long old.listeners one.listeners (parts.far_stays ends peers old id frames counts idle places may place far (linking id forged_general) one first_notes half opening.0).stay
 
-      asked_so : Going bench_air (rawing id frames) (seen_at device_linked peer_ends (moment old) ends counts) (seen_at device_linked peer_ends (moment one) (shows.with' half.end) half.numbers) first_notes
+      asked_so : Going bench_air (rawing id frames) (seen_at device_linked peer_ends (moment old) ends counts) (seen_at device_linked peer_ends (moment one) (shows.with' half.end) half.numbers)
+          first_notes
       asked_so =
           let q = parts.to_bench ends peers old id frames counts idle places may place far shows (linking id forged_general) one first_notes half long_one opening.0 in
           record {
@@ -349,7 +356,8 @@ module _ (ends : Ends) (peers : Peers) (old : Air Device) (id : DeviceId) (frame
             ends = ap told_rawing at ∙ told_so;
             lost = (
               (λ l. subst (λ xs. 0 < breaks xs) (sym parts_one) (more_breaks chosen.events o.speaks.events (o.lost.0 (is ∙ ap Err (lost.1 l))))),
-              (λ some. lost.0 (let both : ◌≡◌ {A = Result (InitState × ArrayVec ℕ) EndCause} (Err why) (Err causes.FieldLost) = sym is ∙ o.lost.1 (rest_breaks chosen.events o.speaks.events no_break (subst (λ xs. 0 < breaks xs) parts_one some)) in cc)),
+              (λ some. lost.0 (let both : ◌≡◌ {A = Result (InitState × ArrayVec ℕ) EndCause} (Err why) (Err causes.FieldLost) = sym is
+                  ∙ o.lost.1 (rest_breaks chosen.events o.speaks.events no_break (subst (λ xs. 0 < breaks xs) parts_one some)) in cc)),
             );
             noisy = λ six. subst (λ xs. 0 < noise xs) (sym parts_one) (more_noise chosen.events o.speaks.events (o.noisy (is ∙ ap Err (six_is why answer told_so six))));
           })
@@ -427,6 +435,8 @@ module _ (ends : Ends) (peers : Peers) (old : Air Device) (id : DeviceId) (frame
         pub peer_outcome : (got : HeardEach) (new : Air Device) (after : Choosing FarEnd) → SendsCounted one half frames new after got
             → sent.Outcome ends peers old id frames counts idle places may (under (slice_set ends place (Some after.end)) (with_link (range_of after.end) peers) None new) (told_each got)
         peer_outcome got new after x =
-            sent.outcome ends peers old id frames counts idle places may place far shows one half first_notes o.notes kinds.Peer opening.0 (ap setting_of begun_end) selected_on stood_sent none_first true
-            (λ ks e. ap are_sent (stands_on frames o.notes ks (Activates 0) ∙ ap (λ y. raw_stand frames y ks) stood_sent) ∙ e) (λ e. with_link (range_of e) peers) (λ e. is_peer) (λ e. refl) (λ e. refl) range_is got new after x
+            sent.outcome ends peers old id frames counts idle places may place far shows one half first_notes o.notes kinds.Peer opening.0 (ap setting_of begun_end) selected_on stood_sent none_first
+            true
+            (λ ks e. ap are_sent (stands_on frames o.notes ks (Activates 0) ∙ ap (λ y. raw_stand frames y ks) stood_sent) ∙ e) (λ e. with_link (range_of e) peers) (λ e. is_peer) (λ e. refl)
+            (λ e. refl) range_is got new after x
             (inr (n, (λ e. refl), there, here, numbered))

@@ -18,12 +18,14 @@ stand_more frames s [] n = refl
 stand_more frames s (k ∷ ns) n = stand_more frames (raw_noted frames s k) ns n
 
 -- Some of them were sent, of which this was heard, and these are left.
-pub record Sending {A : Type 0} (restarts : A → List ℕ → A → Type 0) (steps : A → List ℕ → List ℕ → A → Type 0) (old : Air Device) (far : A) (frames left : List Signal) (now : Air Device) (half : A) (heard : List RawHeard) : Type 0 where
+pub record Sending {A : Type 0} (restarts : A → List ℕ → A → Type 0) (steps : A → List ℕ → List ℕ → A → Type 0) (old : Air Device) (far : A) (frames left : List Signal) (now : Air Device) (half : A)
+    (heard : List RawHeard) : Type 0 where
   pub notes : List Note
   pub on : SpeaksOn devices restarts steps (frames_due frames) old far now half notes
   pub stands : raw_stand frames (Sends [] frames) notes ≡ Sends heard left
 
-module _ {A : Type 0} (restarts : A → List ℕ → A → Type 0) (steps : A → List ℕ → List ℕ → A → Type 0) (stops : A → List ℕ → A → Type 0) (is_stuck : A → Bool) (old : Air Device) (far : A) (frames : List Signal) (lit : old.lit ≡ true) where
+module _ {A : Type 0} (restarts : A → List ℕ → A → Type 0) (steps : A → List ℕ → List ℕ → A → Type 0) (stops : A → List ℕ → A → Type 0) (is_stuck : A → Bool) (old : Air Device) (far : A)
+    (frames : List Signal) (lit : old.lit ≡ true) where
   abbrev On : List Signal → Air Device → A → List RawHeard → Type 0
   On left now half heard = Sending restarts steps old far frames left now half heard
 
@@ -35,7 +37,8 @@ module _ {A : Type 0} (restarts : A → List ℕ → A → Type 0) (steps : A �
   sending_over now half heard s = record { notes = s.notes; mid = now; half = half; speaks = s.on.speaks; ends = (refl, refl, s.stands) }
 
   -- room was wanting
-  pub sending_rests : (left : List Signal) (now : Air Device) (half : A) (heard : List RawHeard) → On left now half heard → SendsEach restarts steps stops is_stuck old far frames now half (Err causes.Memory)
+  pub sending_rests : (left : List Signal) (now : Air Device) (half : A) (heard : List RawHeard) → On left now half heard
+      → SendsEach restarts steps stops is_stuck old far frames now half (Err causes.Memory)
   sending_rests left now half heard s = record { notes = s.notes; mid = now; half = half; speaks = s.on.speaks; ends = (ap are_sent s.stands, inl (refl, refl)) }
 
   -- one more is sent
@@ -53,7 +56,8 @@ module _ {A : Type 0} (restarts : A → List ℕ → A → Type 0) (steps : A �
       stands = noted (Got h);
     }
 
-    pub sending_lost : Transmits devices restarts steps stops is_stuck now f half (Err air.FieldLost) new after → SendsEach restarts steps stops is_stuck old far frames new after (Err causes.FieldLost)
+    pub sending_lost : Transmits devices restarts steps stops is_stuck now f half (Err air.FieldLost) new after
+        → SendsEach restarts steps stops is_stuck old far frames new after (Err causes.FieldLost)
     sending_lost (inl dark) = absurd (let clash : true ≡ false = sym lit ∙ sym s.on.lit ∙ dark.0 in cc)
     sending_lost (inr t) = record {
       notes = s.notes ++ Lost ∷ [];

@@ -48,7 +48,8 @@ module _ (old mid : Air Device) (far half : Choosing FarEnd) (r : Result (InitSt
     behind = (refl, refl, refl);
   }
 
-pub raws_to : (m now : Machines) (place : ℕ) (counts : List ℕ) (frames : List Signal) (peer : ℕ) (far : FarEnd) (air : Air Device) (after : Choosing FarEnd) (sent : SentRaw) (result : Result Answer ObeyFault)
+pub raws_to : (m now : Machines) (place : ℕ) (counts : List ℕ) (frames : List Signal) (peer : ℕ) (far : FarEnd) (air : Air Device) (after : Choosing FarEnd) (sent : SentRaw)
+    (result : Result Answer ObeyFault)
     → RawSendsAll m.air (record { end = far; numbers = counts }) frames air after sent → result ≡ told_raw sent → now ≡ left_by sent m air place after.end peer (length far.service.accepted)
     → RawSendsTo m now place counts frames peer far result
 raws_to m now place counts frames peer far air after sent result sends told left = inr (record { air = air; after = after; sent = sent; sends = sends; told = told; left = left })

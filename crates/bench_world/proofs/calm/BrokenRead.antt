@@ -191,7 +191,8 @@ module _ (id : DeviceId) (tag : Device) (m : Msg) (read : Entry) (r : BreaksThen
   same_store first =
       let field : BenchWorld = r.before.world.field in
       let es : List Event = r.broken.events in
-      let keeps = first_broken id r.broken_given.asked bench_air (world_at_start start r.broken_given.joins (Write id m)) es field front.turns front.each (subst (λ n. FatesFrom (breaking n) es) first front.fates) in
+      let keeps = first_broken id r.broken_given.asked bench_air (world_at_start start r.broken_given.joins (Write id m)) es field front.turns front.each
+      (subst (λ n. FatesFrom (breaking n) es) first front.fates) in
       last_image (device_id tag) field es (device_store tag) ∙ held_kept (device_id tag) field.listeners (replay air field es).listeners keeps
       ∙ ap (λ i. held_by (device_with i field.listeners)) (found_named (bytes_of id) field.listeners tag r.placed) ∙ ap held_by r.placed
 

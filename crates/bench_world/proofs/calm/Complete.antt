@@ -115,7 +115,8 @@ module _ (id : DeviceId) (ds : List Device) (d : Device) (placed : device_with (
     tag_ends (Err faults.BadAnswer) behind es q none c e = absurd c
 
   -- A command of a placed tag tells what it tells of the device.
-  tag_completes : (Tells : Device → Answer → Type 0) (asked : List Signal) (events : List Event) (answer : Answer) → TagTells Tells id ds asked events answer → IsUndisturbed id asked events → Tells d answer
+  tag_completes : (Tells : Device → Answer → Type 0) (asked : List Signal) (events : List Event) (answer : Answer) → TagTells Tells id ds asked events answer → IsUndisturbed id asked events
+      → Tells d answer
   tag_completes Tells asked events answer t calm =
       tag_ends Tells asked answer (λ e. no_lost (breaks events) calm.lit (t.lost.0 e)) t.polled t.behind events calm.round
       (λ kind e bad. calm.waits kind t.behind (t.selected ∙ ap (λ r. Told r t.behind) e) bad) t.cause t.ends
@@ -125,7 +126,8 @@ module _ (ds : List Device) (answer : Answer) (lit : answer ≡ answers.FieldLos
   abbrev listed : List Picked → Vcrowd → Answer
   listed cards others = answers.Found (seen_all (record { cards = cards; others = others })) (is_crowd others)
 
-  others_end : (cards : List Picked) (o : Result Vcrowd PollFault) (es : List Event) → noisy_tries inventory_all es < tries → InventoryEnds TellsFound ds cards o es answer → answer ≡ listed cards (others_of ds)
+  others_end : (cards : List Picked) (o : Result Vcrowd PollFault) (es : List Event) → noisy_tries inventory_all es < tries → InventoryEnds TellsFound ds cards o es answer
+      → answer ≡ listed cards (others_of ds)
   others_end cards (Ok others) es n e = told e.0
     where
       told : AreOthers ds others es → answer ≡ listed cards (others_of ds)
@@ -138,7 +140,8 @@ module _ (ds : List Device) (answer : Answer) (lit : answer ≡ answers.FieldLos
   others_end cards (Err faults.NotFound) es n e = absurd e
   others_end cards (Err faults.BadAnswer) es n e = absurd e
 
-  find_ends : (r : Result (List Picked) PollFault) (behind : List Note) (es : List Event) → (AreDisturbed (rounds es) → ⊥) → noisy_tries inventory_all es < tries → FindEnds TellsFound ds r behind es answer
+  find_ends : (r : Result (List Picked) PollFault) (behind : List Note) (es : List Event) → (AreDisturbed (rounds es) → ⊥) → noisy_tries inventory_all es < tries
+      → FindEnds TellsFound ds r behind es answer
       → answer ≡ listed (crowd_of ds) (others_of ds)
   find_ends (Ok cards) behind es q n e = others_end cards e.2 es n e.4 ∙ ap (λ c. listed c (others_of ds)) (whole e.1)
     where

@@ -146,10 +146,12 @@ module _ (m : ℕ) (answer : Answer) where
   heard_by : (v w : Bool) → v ≡ w → IsHeardOf w m answer → IsHeardOf v m answer
   heard_by v w e h = subst (λ b. IsHeardOf b m answer) (sym e) h
 
-module _ (id : List ℕ) (ds : List Device) (d : Device) (placed : device_with id ds ≡ Some d) (named : IsNamed (A id) d) (payloads : List (List ℕ)) (answer : Answer) (lit : IsFieldLost answer → ⊥) where
+module _ (id : List ℕ) (ds : List Device) (d : Device) (placed : device_with id ds ≡ Some d) (named : IsNamed (A id) d) (payloads : List (List ℕ)) (answer : Answer)
+    (lit : IsFieldLost answer → ⊥) where
   -- once a device is selected, it is seen to be what it is
   forge_ends : (r : Result SeenKind PollFault) (behind : List Note) (es : List Event) → IsQuietOnce (A id) es → ((k : SeenKind) → r ≡ Ok k → seen_of d ≡ k)
-      → (r ≡ Ok seen.Peer → HadSixBad (forge_stand payloads (Activates 0) behind) → ⊥) → HasPollCause (A id) ds r es → ForgeEnds payloads r behind answer → IsHeardOf (is_tag d) (length payloads) answer
+      → (r ≡ Ok seen.Peer → HadSixBad (forge_stand payloads (Activates 0) behind) → ⊥) → HasPollCause (A id) ds r es → ForgeEnds payloads r behind answer
+      → IsHeardOf (is_tag d) (length payloads) answer
   forge_ends (Ok seen.T2) behind es q kind none c e = heard_by (length payloads) answer (is_tag d) true (tag_two d (kind seen.T2 refl)) e
   forge_ends (Ok seen.T4) behind es q kind none c e = heard_by (length payloads) answer (is_tag d) true (tag_four d (kind seen.T4 refl)) e
   forge_ends (Ok seen.T5) behind es q kind none c e = heard_by (length payloads) answer (is_tag d) true (tag_five d (kind seen.T5 refl)) e
@@ -217,7 +219,8 @@ six_told (Unlinked cause.SixBad) answer six told = same_told (answers.LinkEnded 
 six_told (Exchanges (BrokenBy cause.SixBad)) answer six told = same_told (answers.LinkEnded losses.SixBad) answer told
 six_told s answer six told = absurd six
 
-module _ (s t : State) (g : Given) (e : Entry) (id : List ℕ) (payloads : List (List ℕ)) (d : Device) (ready : IsReady s.world.field.listeners) (step : LegalStep s g e t) (o : ForgesPlaced s e id payloads d) where
+module _ (s t : State) (g : Given) (e : Entry) (id : List ℕ) (payloads : List (List ℕ)) (d : Device) (ready : IsReady s.world.field.listeners) (step : LegalStep s g e t)
+    (o : ForgesPlaced s e id payloads d) where
   law : ForgeLaw s g.joins id payloads e.events e.answer
   law = let L : Command → Type 0 = λ c. AnswerLaw s g c e.events e.answer in subst L o.command step.answered
 
@@ -238,7 +241,8 @@ module _ (s t : State) (g : Given) (e : Entry) (id : List ℕ) (payloads : List 
 
   forge_complete : IsUndisturbedForging id payloads e.events → IsHeardOf (is_tag d) (length payloads) e.answer
   forge_complete calm =
-      forge_ends id s.world.field.listeners d o.placed o.named payloads e.answer (λ lost. no_lost (breaks e.events) calm.lit (law.tells.lost.0 lost)) law.tells.polled law.tells.behind e.events calm.round
+      forge_ends id s.world.field.listeners d o.placed o.named payloads e.answer (λ lost. no_lost (breaks e.events) calm.lit (law.tells.lost.0 lost)) law.tells.polled law.tells.behind e.events
+      calm.round
       (λ k is. kind_is k law.tells.behind (told_so k is)) (λ is six. calm.waits law.tells.behind (told_so seen.Peer is) six) law.tells.cause law.tells.ends
 
   kinds_so : TellsKind d payloads e.answer
@@ -258,7 +262,8 @@ module _ (s t : State) (g : Given) (e : Entry) (id : List ℕ) (payloads : List 
       let none : noise e.events ≡ 0 = quiet_of s t g e (Forge id payloads) step o.command refl pass in
       record {
         lit = no_breaks e.events none;
-        round = first_round bench_air (world_at_start s g.joins (Forge id payloads)) (due s g (Forge id payloads)) e.events (subst (λ c. AreTurns bench_air (world_at_start s g.joins c) e.events) o.command step.front.turns)
+        round = first_round bench_air (world_at_start s g.joins (Forge id payloads)) (due s g (Forge id payloads)) e.events
+            (subst (λ c. AreTurns bench_air (world_at_start s g.joins c) e.events) o.command step.front.turns)
             (subst (λ c. EachDue (due s g c) [] e.events) o.command step.front.each) refl (ap (λ c. due s g c (receptions e.events)) (sym o.command) ∙ step.over) none;
         waits = none_six none;
       }

@@ -82,7 +82,8 @@ no_tag (T3 p) e = absurd cc
 answer_by : (n : ℕ) (d : Device) (v : Bool) → is_tag d ≡ v → (if v then answers.WrongKind else answers.Linked n) ≡ link_answer n d
 answer_by n d v e = ap (λ x. if x then answers.WrongKind else answers.Linked n) (sym e)
 
-module _ (id : List ℕ) (ds : List Device) (d : Device) (placed : device_with id ds ≡ Some d) (named : IsNamed (A id) d) (n : ℕ) (general : List ℕ) (answer : Answer) (lit : IsFieldLost answer → ⊥) where
+module _ (id : List ℕ) (ds : List Device) (d : Device) (placed : device_with id ds ≡ Some d) (named : IsNamed (A id) d) (n : ℕ) (general : List ℕ) (answer : Answer)
+    (lit : IsFieldLost answer → ⊥) where
   standing : (s : Standing) → ((left : List Signal) → s ≡ Broken asking.SixBad left → ⊥) → TellsStanding (λ a. a ≡ answers.Linked n) TellsLoss s answer → answer ≡ answers.Linked n
   standing (Asking bad []) none t = t
   standing (Asking bad (c ∷ cs)) none t = absurd t
@@ -94,7 +95,8 @@ module _ (id : List ℕ) (ds : List Device) (d : Device) (placed : device_with i
 
   -- once a device is selected, it is seen to be what it is
   link_ends : (r : Result SeenKind PollFault) (behind : List Note) (es : List Event) → IsQuietOnce (A id) es → ((k : SeenKind) → r ≡ Ok k → seen_of d ≡ k)
-      → (r ≡ Ok seen.Peer → (left : List Signal) → stand 0 (atr_frame general ∷ []) behind ≡ Broken asking.SixBad left → ⊥) → HasPollCause (A id) ds r es → LinkEnds n general r behind answer → answer ≡ link_answer n d
+      → (r ≡ Ok seen.Peer → (left : List Signal) → stand 0 (atr_frame general ∷ []) behind ≡ Broken asking.SixBad left → ⊥) → HasPollCause (A id) ds r es → LinkEnds n general r behind answer
+      → answer ≡ link_answer n d
   link_ends (Ok seen.T2) behind es q kind none c e = e ∙ answer_by n d true (tag_two d (kind seen.T2 refl))
   link_ends (Ok seen.T4) behind es q kind none c e = e ∙ answer_by n d true (tag_four d (kind seen.T4 refl))
   link_ends (Ok seen.T5) behind es q kind none c e = e ∙ answer_by n d true (tag_five d (kind seen.T5 refl))
@@ -145,7 +147,8 @@ module _ (d : Device) (n : ℕ) (general : List ℕ) (answer : Answer) where
   kinds_by (Err faults.NotFound) behind kind e = of_other answers.NotFound (told_once answers.NotFound answer e) (λ w. cc) (λ m q. cc)
   kinds_by (Err faults.BadAnswer) behind kind e = absurd cc
 
-module _ (s t : State) (g : Given) (e : Entry) (id : List ℕ) (miu window : ℕ) (d : Device) (ready : IsReady s.world.field.listeners) (step : LegalStep s g e t) (o : OpensPlaced s e id miu window d) where
+module _ (s t : State) (g : Given) (e : Entry) (id : List ℕ) (miu window : ℕ) (d : Device) (ready : IsReady s.world.field.listeners) (step : LegalStep s g e t)
+    (o : OpensPlaced s e id miu window d) where
   law : LinkingLaw s g.joins id miu window e.events e.answer
   law = let L : Command → Type 0 = λ c. AnswerLaw s g c e.events e.answer in subst L o.command step.answered
 
@@ -154,14 +157,16 @@ module _ (s t : State) (g : Given) (e : Entry) (id : List ℕ) (miu window : ℕ
   kind_is k behind told =
       let a : Moment WholeWorld = record { world = world_at_start s g.joins (Link id miu window); queue = s.queue; trace = [] } in
       let ident : IsIdent id = ident_of id d (with_sound s.world.field.listeners id d ready.tame.sound o.placed) o.named in
-      kind_told id (linking (A id) (own_general miu)) (then_opens (own_general miu)) (λ hs. refl) (λ n. refl) (λ x ns. refl) a ident ready.tame ready.tidy refl e.events (subst (λ c. AreTurns bench_air (world_at_start s g.joins c) e.events) o.command step.front.turns)
+      kind_told id (linking (A id) (own_general miu)) (then_opens (own_general miu)) (λ hs. refl) (λ n. refl) (λ x ns. refl) a ident ready.tame ready.tidy refl e.events
+      (subst (λ c. AreTurns bench_air (world_at_start s g.joins c) e.events) o.command step.front.turns)
       (subst (λ c. FatesFrom (changed s c).queue e.events) o.command step.front.fates) (subst (λ c. EachDue (due s g c) [] e.events) o.command step.front.each) d o.placed k behind told
 
   opens_complete : IsUndisturbedOpening id miu e.events → e.answer ≡ link_answer (length s.peers.links + 1) d
   opens_complete calm =
       let tells : LinkTells (A id) s.world.field.listeners (length s.peers.links + 1) (own_general miu) e.events e.answer = law.tells in
       let by : (k : SeenKind) → tells.polled ≡ Ok k → selecting (A id) (receptions e.events) ≡ Told (Ok k) tells.behind = λ k is. tells.selected ∙ ap (λ r. Told r tells.behind) is in
-      link_ends id s.world.field.listeners d o.placed o.named (length s.peers.links + 1) (own_general miu) e.answer (λ lost. no_lost (breaks e.events) calm.lit (tells.lost.0 lost)) tells.polled tells.behind e.events calm.round
+      link_ends id s.world.field.listeners d o.placed o.named (length s.peers.links + 1) (own_general miu) e.answer (λ lost. no_lost (breaks e.events) calm.lit (tells.lost.0 lost)) tells.polled
+      tells.behind e.events calm.round
       (λ k is. kind_is k tells.behind (by k is)) (λ is left six. calm.waits tells.behind left (by seen.Peer is) six) tells.cause tells.ends
 
   kinds_so : TellsKind d (length s.peers.links + 1) (own_general miu) e.answer
@@ -170,7 +175,8 @@ module _ (s t : State) (g : Given) (e : Entry) (id : List ℕ) (miu window : ℕ
       kinds_by d (length s.peers.links + 1) (own_general miu) e.answer tells.polled tells.behind (λ k is. kind_is k tells.behind (tells.selected ∙ ap (λ r. Told r tells.behind) is)) tells.ends
 
   -- without noise nothing keeps it from its answer
-  none_six : noise e.events ≡ 0 → (behind : List Note) (left : List Signal) → selecting (A id) (receptions e.events) ≡ Told (Ok seen.Peer) behind → stand 0 (atr_frame (own_general miu) ∷ []) behind ≡ Broken asking.SixBad left → ⊥
+  none_six : noise e.events ≡ 0 → (behind : List Note) (left : List Signal) → selecting (A id) (receptions e.events) ≡ Told (Ok seen.Peer) behind
+      → stand 0 (atr_frame (own_general miu) ∷ []) behind ≡ Broken asking.SixBad left → ⊥
   none_six none behind left told six =
       let tells : LinkTells (A id) s.world.field.listeners (length s.peers.links + 1) (own_general miu) e.events e.answer = law.tells in
       let n : ℕ = length s.peers.links + 1 in
@@ -186,7 +192,8 @@ module _ (s t : State) (g : Given) (e : Entry) (id : List ℕ) (miu window : ℕ
       let none : noise e.events ≡ 0 = quiet_of s t g e (Link id miu window) step o.command refl pass in
       record {
         lit = no_breaks e.events none;
-        round = first_round bench_air (world_at_start s g.joins (Link id miu window)) (due s g (Link id miu window)) e.events (subst (λ c. AreTurns bench_air (world_at_start s g.joins c) e.events) o.command step.front.turns)
+        round = first_round bench_air (world_at_start s g.joins (Link id miu window)) (due s g (Link id miu window)) e.events
+            (subst (λ c. AreTurns bench_air (world_at_start s g.joins c) e.events) o.command step.front.turns)
             (subst (λ c. EachDue (due s g c) [] e.events) o.command step.front.each) refl (ap (λ c. due s g c (receptions e.events)) (sym o.command) ∙ step.over) none;
         waits = none_six none;
       }

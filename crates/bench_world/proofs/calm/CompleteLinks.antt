@@ -28,8 +28,10 @@ use Rattle.bench_world.specs.declared.entry.Answer.TheVariants as answers
 use Rattle.bench_world.specs.declared.entry.Entry.{Entry}
 use Rattle.bench_world.specs.declared.entry.Loss.{Loss}
 use Rattle.bench_world.specs.declared.entry.Loss.TheVariants as losses
-use Rattle.bench_world.specs.Calls.{CallAdds, CallTells, EachAdds, HadSixBad, IfLinked, IsTold, OfEnd, PeerAdds, PeerTells, GetTells, LookupTells, all_done, done_before, told_alone, told_asked, told_at_once, told_done, told_each, told_ending, told_job, told_jobs, told_one, told_several, told_step, told_call, told_closing, stands_on, stands_closing}
-use Rattle.bench_world.specs.CompletingLinks.{done_so, put_answer, puts_answer, value_answer, table_answer, get_answer, peer_answer, HadSixBadBy, HadSixBadOn, IsUndisturbedOn, AskedComplete, EachWithin, IsOkAsking, IsOkBy, IsValidAsking, IsValidBy, ValidIsOk}
+use Rattle.bench_world.specs.Calls.{CallAdds, CallTells, EachAdds, HadSixBad, IfLinked, IsTold, OfEnd, PeerAdds, PeerTells, GetTells, LookupTells, all_done, done_before, told_alone, told_asked}
+use Rattle.bench_world.specs.Calls.{told_at_once, told_done, told_each, told_ending, told_job, told_jobs, told_one, told_several, told_step, told_call, told_closing, stands_on, stands_closing}
+use Rattle.bench_world.specs.CompletingLinks.{done_so, put_answer, puts_answer, value_answer, table_answer, get_answer, peer_answer, HadSixBadBy, HadSixBadOn, IsUndisturbedOn, AskedComplete}
+use Rattle.bench_world.specs.CompletingLinks.{EachWithin, IsOkAsking, IsOkBy, IsValidAsking, IsValidBy, ValidIsOk}
 use Rattle.bench_world.specs.Legal.{State, Given, LegalStep, AnswerBy, CallLaw, peer_end_of}
 use Rattle.link_calls.specs.Asking.{LinkAsking, Call, Does, Closes, Finding, Getting, Putting}
 use Rattle.bench_world.specs.Asked.{asked_on_link}
@@ -141,7 +143,8 @@ module _ (end : FarEnd) (more : List Received) where
   abbrev DoneAs : ℕ → Bool → SlotDone
   DoneAs slot success = record { slot = slot; success = success }
 
-  next_put : (w : SlotMessage) (ws : List SlotMessage) (o : Outcome) (r : Option (List SlotDone)) (ds : List SlotDone) → done_before w.slot o r ≡ Some ds → EachAdds (w ∷ ws) Limit (map told_done ds) more
+  next_put : (w : SlotMessage) (ws : List SlotMessage) (o : Outcome) (r : Option (List SlotDone)) (ds : List SlotDone) → done_before w.slot o r ≡ Some ds
+      → EachAdds (w ∷ ws) Limit (map told_done ds) more
       → ((es : List SlotDone) → r ≡ Some es → EachAdds ws Limit (map told_done es) more → es ≡ map (done_so Limit) ws) → ds ≡ map (done_so Limit) (w ∷ ws)
   next_put w ws outcomes.Success (Some es) ds e h rest =
       let is : DoneAs w.slot true ∷ es ≡ ds = cc in
@@ -162,7 +165,8 @@ module _ (end : FarEnd) (more : List Received) where
   several_put jobs [] ds e h = let is : ◌≡◌ {A = List SlotDone} [] ds = cc in sym is
   several_put jobs (w ∷ ws) ds e h = next_put w ws (told_on jobs w.slot) (all_done ws jobs) ds e h (λ es is k. several_put jobs ws es is k)
 
-  all_put : (jobs : List OnSap) (ws : List SlotMessage) (r : Option (List SlotDone)) (answer : Answer) → all_done ws jobs ≡ r → told_several r ≡ Some answer → EachAdds ws Limit (told_each ws answer) more
+  all_put : (jobs : List OnSap) (ws : List SlotMessage) (r : Option (List SlotDone)) (answer : Answer) → all_done ws jobs ≡ r → told_several r ≡ Some answer
+      → EachAdds ws Limit (told_each ws answer) more
       → answer ≡ answers.Puts (map (done_so Limit) ws)
   all_put jobs ws None answer is e h = absurd cc
   all_put jobs ws (Some ds) answer is e h =
@@ -252,7 +256,8 @@ module _ (s t : State) (g : Given) (e : Entry) (l : OpenLink) (step : LegalStep 
       linked (λ k. CallLaw s g.joins k asked e.command e.events e.answer) (e.answer ≡ answers.NoLink) up (subst (λ o. AnswerBy o s g e.command e.events e.answer) asks step.answered)
 
 -- what the answer of its peer gives
-told_peer : (call : Call) (end : FarEnd) (more : List Received) (answer : Answer) → CameSo call answer → CallAdds call end answer more → CallTells call end answer → answer ≡ peer_answer (Does call) end
+told_peer : (call : Call) (end : FarEnd) (more : List Received) (answer : Answer) → CameSo call answer → CallAdds call end answer more → CallTells call end answer
+    → answer ≡ peer_answer (Does call) end
 told_peer (Putting ws) end more answer x adds tells = puts_told_so end more ws x.jobs answer x.told adds.each
 told_peer (Getting sap most key) end more answer x adds tells =
     let y = alone_ended x.jobs answer x.told in y.told ∙ get_told most key end y.ending (subst (GetTells most key end) y.told tells)

@@ -112,7 +112,8 @@ module _ (s t : State) (g : Given) (e : Entry) (id : DeviceId) (frames : List Si
   law = let L : Command → Type 0 = λ c. AnswerLaw s g c e.events e.answer in subst L o.command step.answered
 
   raw_ends : (lit : IsFieldLost e.answer → ⊥) (r : Result SeenKind PollFault) (behind : List Note) → IsQuietOnce id e.events
-      → ((kind : SeenKind) → r ≡ Ok kind → raw_behind frames kind behind ≡ Unlinked cause.SixBad → ⊥) → HasPollCause id ds r e.events → RawEnds frames r behind e.answer → IsHeardOf (length frames) e.answer
+      → ((kind : SeenKind) → r ≡ Ok kind → raw_behind frames kind behind ≡ Unlinked cause.SixBad → ⊥) → HasPollCause id ds r e.events → RawEnds frames r behind e.answer
+      → IsHeardOf (length frames) e.answer
   raw_ends lit (Ok kind) behind q none c told =
       told_heard frames e.answer (raw_behind frames kind behind) (stand_heard frames behind (raw_first kind frames) (first_heard frames kind)) told lit (none kind refl)
   raw_ends lit (Err faults.Nobody) behind q none c told = absurd c
@@ -141,7 +142,8 @@ module _ (s t : State) (g : Given) (e : Entry) (id : DeviceId) (frames : List Si
 
   quiet_once : noise e.events ≡ 0 → (i : DeviceId) → id ≡ i → IsQuietOnce i e.events
   quiet_once none (A x) is =
-      first_round bench_air (world_at_start s g.joins (Raw id frames)) (due s g (Raw id frames)) e.events (subst (λ c. AreTurns bench_air (world_at_start s g.joins c) e.events) o.command step.front.turns)
+      first_round bench_air (world_at_start s g.joins (Raw id frames)) (due s g (Raw id frames)) e.events
+      (subst (λ c. AreTurns bench_air (world_at_start s g.joins c) e.events) o.command step.front.turns)
       (subst (λ c. EachDue (due s g c) [] e.events) o.command step.front.each) (ap (λ k. due s g (Raw k frames) []) is)
       (ap (λ c. due s g c (receptions e.events)) (sym o.command) ∙ step.over) none
   quiet_once none (V x) is = few_noisy (noisy_tries (inventory_of x) e.events) (no_noisy _ e.events none)

@@ -113,7 +113,8 @@ up_passes (Clash g x ∷ es) z = let n : noise (up_to_reset es) ≡ 0 = up_passe
 
 -- A command that polls begins with a reset, and its first round isn't disturbed.
 module _ {W : Type 0} (m : AirModel W) where
-  pub first_round : (w : W) (next : List Note → Next) (es : List Event) → AreTurns m w es → EachDue next [] es → next [] ≡ LightUp → next (receptions es) ≡ Over → noise es ≡ 0 → AreDisturbed (rounds es) → ⊥
+  pub first_round : (w : W) (next : List Note → Next) (es : List Event) → AreTurns m w es → EachDue next [] es → next [] ≡ LightUp → next (receptions es) ≡ Over → noise es ≡ 0
+      → AreDisturbed (rounds es) → ⊥
   first_round w next [] turns each lit over z d = absurd (let clash : LightUp ≡ Over = sym lit ∙ over in cc)
   first_round w next (Reset ∷ es) turns each lit over z d =
       let none : noisy_turns is_call (up_to_reset es) ≡ 0 = no_noisy is_call (up_to_reset es) (up_passes es z) in
@@ -138,10 +139,12 @@ quiet_of s t g e c step is same pass =
     (quiet_stays s t g e step (subst (λ q. AllPass q) (sym there) pass)).0
 
 -- its first round isn't disturbed, where it begins with a reset
-round_of : (s t : State) (g : Given) (e : Entry) (c : Command) → LegalStep s g e t → e.command ≡ c → (changed s c).world.field ≡ s.world.field → (UsesFars c → ⊥) → due s g c [] ≡ LightUp → noise e.events ≡ 0 → AreDisturbed (rounds e.events) → ⊥
+round_of : (s t : State) (g : Given) (e : Entry) (c : Command) → LegalStep s g e t → e.command ≡ c → (changed s c).world.field ≡ s.world.field → (UsesFars c → ⊥) → due s g c [] ≡ LightUp
+    → noise e.events ≡ 0 → AreDisturbed (rounds e.events) → ⊥
 round_of s t g e c step is same quiet lit none =
     let there : (changed s e.command).world.field ≡ s.world.field = ap (λ k. (changed s k).world.field) is ∙ same in
-    first_round air s.world.field (due s g c) e.events (subst (λ (w : BenchWorld). AreTurns air w e.events) there (on_field s t g e.command e.events (λ h. quiet (subst UsesFars is h)) step.front).turns) (subst (λ k. EachDue (due s g k) [] e.events) is step.front.each) lit
+    first_round air s.world.field (due s g c) e.events (subst (λ (w : BenchWorld). AreTurns air w e.events) there
+    (on_field s t g e.command e.events (λ h. quiet (subst UsesFars is h)) step.front).turns) (subst (λ k. EachDue (due s g k) [] e.events) is step.front.each) lit
     (ap (λ k. due s g k (receptions e.events)) (sym is) ∙ step.over) none
 
 pub quiet_finds : QuietFinds
@@ -161,7 +164,8 @@ quiet_threes s t g e step is pass =
     threes_complete s t g e step is (no_breaks e.events none) (few_noisy (noisy_tries sensf_req e.events) (no_noisy _ e.events none))
 
 -- six bad receptions of a wait are what the command tells
-told_six : (Tells : Answer → Type 0) (kind : SeenKind) (asked : List Signal) (ns : List Note) (answer : Answer) → TellsBy kind Tells TellsFault asked ns answer → HadSixBad kind asked ns → answer ≡ SixBad
+told_six : (Tells : Answer → Type 0) (kind : SeenKind) (asked : List Signal) (ns : List Note) (answer : Answer) → TellsBy kind Tells TellsFault asked ns answer → HadSixBad kind asked ns
+    → answer ≡ SixBad
 told_six Tells seen.T2 asked ns answer tells six = subst (λ x. TellsStanding Tells TellsFault x answer) six.1 tells
 told_six Tells seen.T4 asked ns answer tells six = subst (λ x. TellsCard Tells TellsFault x answer) six tells
 told_six Tells seen.T5 asked ns answer tells six = subst (λ x. TellsStanding Tells TellsFault x answer) six.1 tells
@@ -171,7 +175,8 @@ no_six : (Tells : Device → Answer → Type 0) (id : DeviceId) (ds : List Devic
     → (kind : SeenKind) (behind : List Note) → selecting id (receptions es) ≡ Told (Ok kind) behind → HadSixBad kind asked behind → ⊥
 no_six Tells id ds asked es answer t none kind behind told six =
     let same = one_end t.polled (Ok kind) t.behind behind (sym t.selected ∙ told) in
-    let ends : TagEnds Tells id ds asked (Ok kind) behind answer = subst (λ ns. TagEnds Tells id ds asked (Ok kind) ns answer) same.1 (subst (λ r. TagEnds Tells id ds asked r t.behind answer) same.0 t.ends) in
+    let ends : TagEnds Tells id ds asked (Ok kind) behind answer = subst (λ ns. TagEnds Tells id ds asked (Ok kind) ns answer) same.1
+    (subst (λ r. TagEnds Tells id ds asked r t.behind answer) same.0 t.ends) in
     let some : 0 < noise es = t.noisy (told_six (λ a. OfPlaced (λ d. Tells d a) (device_with (bytes_of id) ds)) kind asked behind answer ends six) in
     omega (arith, none, some)
 

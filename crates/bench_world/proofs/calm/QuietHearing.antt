@@ -8,7 +8,8 @@ use Rattle.nfc_base.specs.Trace.{noise}
 use Rattle.nfc_base.specs.declared.event.Fate.{Fate}
 use Rattle.air_core.specs.Conversation.{Note, Next, LightUp, AreTurns, FatesFrom, EachDue, Moment, receptions}
 use Rattle.bench_script.specs.declared.command.Command.{Command}
-use Rattle.bench_script.specs.declared.command.Command.TheVariants.{Skip, Fates, PlaceT2, PlaceT3, PlaceT4, PlaceT5, PlacePeer, Lock, Busy, Offer, Remove, Dump, Inbox, Find, Crowd, Poll3, Read, Read3, Write, Write3, Link, Forge, Raw, Put, Get, Lookup, OnPut, OnGet, Puts, Unlink}
+use Rattle.bench_script.specs.declared.command.Command.TheVariants.{Skip, Fates, PlaceT2, PlaceT3, PlaceT4, PlaceT5, PlacePeer, Lock, Busy, Offer, Remove, Dump, Inbox, Find, Crowd, Poll3, Read, Read3}
+use Rattle.bench_script.specs.declared.command.Command.TheVariants.{Write, Write3, Link, Forge, Raw, Put, Get, Lookup, OnPut, OnGet, Puts, Unlink}
 use Rattle.bench_script.specs.declared.command.DeviceId.{DeviceId}
 use Rattle.bench_script.specs.declared.command.DeviceId.TheVariants.{A, V}
 use Rattle.bench_script.specs.declared.message.Msg.{Msg}
@@ -73,7 +74,8 @@ heed s r id asked Asks each asks d before behind split named =
     subst (λ (k : Kept). AllByRecursion (IsHeeded k.fixed.how) asked) w.same (each w.device (with_sound s.world.field.listeners (bytes_of id) w.device r.tame.sound w.found) readable here)
 
 -- it heeds what a write asks of it, and nothing is asked of a peer
-writes_heeded : (message : List ℕ) (d : Device) → (may_be_read d ≡ true) ⊎ (may_be_read d ≡ false) → (asked : List Signal) → IsSound (kept d) → IsReadable d → AreBytes message → WriteAsks message d asked
+writes_heeded : (message : List ℕ) (d : Device) → (may_be_read d ≡ true) ⊎ (may_be_read d ≡ false) → (asked : List Signal) → IsSound (kept d) → IsReadable d → AreBytes message
+    → WriteAsks message d asked
     → AllByRecursion (IsHeeded (how_of d)) asked
 writes_heeded message d (inl tag) asked sound readable bytes asks = write_heeded message d asked tag sound readable bytes (of_read d tag _ _ asks)
 writes_heeded message d (inr peer) asked sound readable bytes asks =
@@ -84,12 +86,15 @@ spelled_id : (s : State) (r : IsReady s.world.field.listeners) (asked : List Sig
 spelled_id s r asked word (A id) sp = sp.1
 spelled_id s r asked word (V id) sp = sp.1
 
-module _ (s t : State) (g : Given) (line : List ℕ) (e : Entry) (r : IsReady s.world.field.listeners) (well : AreWellStored s.world.field.listeners) (sp : Spells line e.command) (step : LegalStep s g e t)
+module _ (s t : State) (g : Given) (line : List ℕ) (e : Entry) (r : IsReady s.world.field.listeners) (well : AreWellStored s.world.field.listeners) (sp : Spells line e.command)
+    (step : LegalStep s g e t)
     (pass : AllPass (changed s e.command).queue) where
   -- a command that itself changes nothing, selects a tag and asks it what it heeds
-  tag_answered : (id : DeviceId) → (UsesFars e.command → ⊥) → (changed s e.command).queue ≡ s.queue → (changed s e.command).world.field ≡ s.world.field → due s g e.command ≡ tag_due id g.asked → IsId g.asked (start s) r.tame r.tidy id → Heed g.asked (start s) r.tame r.tidy id → AnswersAll id e
+  tag_answered : (id : DeviceId) → (UsesFars e.command → ⊥) → (changed s e.command).queue ≡ s.queue → (changed s e.command).world.field ≡ s.world.field → due s g e.command ≡ tag_due id g.asked
+      → IsId g.asked (start s) r.tame r.tidy id → Heed g.asked (start s) r.tame r.tidy id → AnswersAll id e
   tag_answered id quiet queue same next named heeds kind since told =
-      tag_hears g.asked (start s) r.tame r.tidy id named heeds e.events (subst (λ q. AllPass q) queue pass) (subst (λ (w : BenchWorld). AreTurns air w e.events) same (on_field s t g e.command e.events quiet step.front).turns)
+      tag_hears g.asked (start s) r.tame r.tidy id named heeds e.events (subst (λ q. AllPass q) queue pass)
+      (subst (λ (w : BenchWorld). AreTurns air w e.events) same (on_field s t g e.command e.events quiet step.front).turns)
       (subst (λ q. FatesFrom q e.events) queue step.front.fates) (subst (λ d. EachDue d [] e.events) next step.front.each) kind since told
 
   read_answered : (id : DeviceId) → e.command ≡ Read id → AnswersAll id e
@@ -97,7 +102,8 @@ module _ (s t : State) (g : Given) (line : List ℕ) (e : Entry) (r : IsReady s.
       let spelled : Spells line (Read id) = let C : Command → Type 0 = λ c. Spells line c in subst C is sp in
       tag_answered id (λ h. subst UsesFars is h) (ap (λ c. (changed s c).queue) is) (ap (λ c. (changed s c).world.field) is) (ap (λ c. due s g c) is) (spelled_id s r g.asked spelled.0 id spelled.2)
       (heed s r id g.asked (λ d. ReadAsks d g.asked)
-      (λ d sound bytes asks. either_if (kind_of d) _ _ _ (λ p. asked_heeded ToRead d g.asked sound bytes p) (λ none. subst (AllByRecursion (IsHeeded (how_of d))) (sym none) tt) asks) (subst (λ c. IsAskedBy s c g.asked) is step.front.asks))
+      (λ d sound bytes asks. either_if (kind_of d) _ _ _ (λ p. asked_heeded ToRead d g.asked sound bytes p) (λ none. subst (AllByRecursion (IsHeeded (how_of d))) (sym none) tt) asks)
+      (subst (λ c. IsAskedBy s c g.asked) is step.front.asks))
 
   write_answered : (id : DeviceId) (m : Msg) → e.command ≡ Write id m → AnswersAll id e
   write_answered id m is =
@@ -123,7 +129,8 @@ module _ (s t : State) (g : Given) (line : List ℕ) (e : Entry) (r : IsReady s.
       subst (AllByRecursion IsAnswered) same.1 (law.tells.calm none)
 
   -- on the open link each is one; where none is open nothing is asked
-  on_link : (next : OpenLink → List Note → Next) (Is : OpenLink → Type 0) (Else : Type 0) (o : Option OpenLink) → ((l : OpenLink) (ns : List Note) → next l ns ≡ LightUp → ⊥) → ((l : OpenLink) → Is l → bad_receptions e.events ≡ 0)
+  on_link : (next : OpenLink → List Note → Next) (Is : OpenLink → Type 0) (Else : Type 0) (o : Option OpenLink) → ((l : OpenLink) (ns : List Note) → next l ns ≡ LightUp → ⊥)
+      → ((l : OpenLink) → Is l → bad_receptions e.events ≡ 0)
       → IfLinked o Is Else → EachDue (λ ns. due_if o (λ l. next l ns)) [] e.events → AllByRecursion IsAnswered (receptions e.events)
   on_link next Is Else None never calm law each = subst (AllByRecursion IsAnswered) (sym (nothing_asked [] e.events each)) tt
   on_link next Is Else (Some l) never calm law each = whole_notes (next l) (never l) [] e.events each none (calm l law)
@@ -181,7 +188,12 @@ module _ (s t : State) (g : Given) (line : List ℕ) (e : Entry) (r : IsReady s.
   by_command (Write i m) is id of = let same : i ≡ id = cc in write_answered id m (is ∙ ap (λ x. Write x m) same)
 
   well_heard : IsWellHeard e
-  well_heard = record { unharmed = all_unharmed e.events none; answered = λ id of. by_command e.command refl id of; sought = sought_answered s t g line e r well sp step pass; talks = talked e.command step.answered step.front.each }
+  well_heard = record {
+    unharmed = all_unharmed e.events none;
+    answered = λ id of. by_command e.command refl id of;
+    sought = sought_answered s t g line e r well sp step pass;
+    talks = talked e.command step.answered step.front.each;
+  }
 
 -- Each entry is heard so from which on all passes.
 abbrev IsAny : List ℕ → Type 0
@@ -265,4 +277,5 @@ quiet_entry s t g line e calm q sp step =
 
 pub quiet_script : QuietScript
 quiet_script lines numbers journal last leads quiet =
-    subst (λ ns. AllAlong IsQuietEntry first_state ns journal) leads.joins (along IsCalm IsQuietLine IsQuietEntry quiet_entry (asking_lines 1 lines) first_state last leads.given journal (record { ready = first_ready; well = tt; queue = tt }) (asking_all IsQuietLine 1 lines quiet) leads.numbered leads.steps)
+    subst (λ ns. AllAlong IsQuietEntry first_state ns journal) leads.joins (along IsCalm IsQuietLine IsQuietEntry quiet_entry (asking_lines 1 lines) first_state last leads.given journal
+    (record { ready = first_ready; well = tt; queue = tt }) (asking_all IsQuietLine 1 lines quiet) leads.numbered leads.steps)

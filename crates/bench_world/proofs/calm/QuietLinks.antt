@@ -66,7 +66,8 @@ message_gains m limit Success xs h told = h.1 ∙ sym (either (nat_lt limit (len
 message_gains m limit Rejected xs h told = h.1 ∙ sym (either (nat_lt limit (length m)) true [] (m ∷ []) (beyond limit (length m) h.0))
 message_gains m limit Unanswered xs h told = absurd (told refl)
 
-each_gains : (limit : ℕ) (more : List Received) (ws : List SlotMessage) (ts : List Told) → EachAdds ws limit ts more → AreTold ts → EachOf (λ slot m. accepted_from (sap_of_slot slot) more ≡ gained limit m) ws
+each_gains : (limit : ℕ) (more : List Received) (ws : List SlotMessage) (ts : List Told) → EachAdds ws limit ts more → AreTold ts
+    → EachOf (λ slot m. accepted_from (sap_of_slot slot) more ≡ gained limit m) ws
 each_gains limit more [] ts h told = tt
 each_gains limit more (w ∷ ws) [] h told = absurd h
 each_gains limit more (w ∷ ws) (t ∷ ts) h told =
@@ -86,14 +87,16 @@ only_from sap (r ∷ rs) none = by (r.source == sap) refl (λ h. only_from sap r
     rest : (r.source ≡ sap) → (s : ℕ) → (sap == s) ≡ false → accepted_from s rs ≡ []
     rest e s apart = sym (ap (λ v. if v then r.message ∷ accepted_from s rs else accepted_from s rs) (ap (λ n. n == s) e ∙ apart)) ∙ none s apart
 
-    by : (v : Bool) → (r.source == sap) ≡ v → (((s : ℕ) → (sap == s) ≡ false → accepted_from s rs ≡ []) → rs ≡ map (from_sap sap) (accepted_from sap rs)) → r ∷ rs ≡ map (from_sap sap) (accepted_from sap (r ∷ rs))
+    by : (v : Bool) → (r.source == sap) ≡ v → (((s : ℕ) → (sap == s) ≡ false → accepted_from s rs ≡ []) → rs ≡ map (from_sap sap) (accepted_from sap rs))
+        → r ∷ rs ≡ map (from_sap sap) (accepted_from sap (r ∷ rs))
     by true e more =
         let same : r.source ≡ sap = eqb-true r.source sap e in
         let first : r ≡ from_sap sap r.message = ap (λ n. record { source = n; message = r.message }) same in
         ap (λ x. x ∷ rs) first ∙ ap (λ xs. from_sap sap r.message ∷ xs) (more (rest same))
         ∙ ap (map (from_sap sap)) (sym (ap (λ v. if v then r.message ∷ accepted_from sap rs else accepted_from sap rs) e))
     by false e more =
-        let own : accepted_from r.source (r ∷ rs) ≡ r.message ∷ accepted_from r.source rs = ap (λ v. if v then r.message ∷ accepted_from r.source rs else accepted_from r.source rs) (eq_self r.source) in
+        let own : accepted_from r.source (r ∷ rs) ≡ r.message ∷ accepted_from r.source rs = ap (λ v. if v then r.message ∷ accepted_from r.source rs else accepted_from r.source rs)
+        (eq_self r.source) in
         absurd (let clash : r.message ∷ accepted_from r.source rs ≡ [] = sym own ∙ none r.source (eq_sym r.source sap e) in cc)
 
 -- so messages that were put at once gain, and one alone
@@ -109,7 +112,8 @@ gains_so (Putting ws) end more answer x adds = all_gain ws end more (told_each w
 gains_so (Getting sap most key) end more answer x adds = adds
 gains_so (Finding name) end more answer x adds = adds
 
-module _ (s t : State) (g : Given) (e : Entry) (step : LegalStep s g e t) (pass : AllPass s.queue) (l : OpenLink) (asked : LinkAsking) (asks : asked_on_link e.command ≡ Some asked) (up : s.link ≡ Some l) where
+module _ (s t : State) (g : Given) (e : Entry) (step : LegalStep s g e t) (pass : AllPass s.queue) (l : OpenLink) (asked : LinkAsking) (asks : asked_on_link e.command ≡ Some asked)
+    (up : s.link ≡ Some l) where
   abbrev law : CallLaw s g.joins l asked e.command e.events e.answer
   law = call_law s t g e l step asked asks up
 
@@ -146,7 +150,8 @@ module _ (s t : State) (g : Given) (e : Entry) (step : LegalStep s g e t) (pass 
       (r.now, link ∙ r.is, r.same)
   stays Closes told none link = tt
 
-  gains : (a : LinkAsking) → IsTold (told_asked a l g.joins.own e.events) e.events e.answer → (HadSixBad a l g.joins.own e.events → ⊥) → (end : FarEnd) → PeerAdds a end e.answer law.more → GainsBy a end law.more
+  gains : (a : LinkAsking) → IsTold (told_asked a l g.joins.own e.events) e.events e.answer → (HadSixBad a l g.joins.own e.events → ⊥) → (end : FarEnd) → PeerAdds a end e.answer law.more
+      → GainsBy a end law.more
   gains (Does call) told none end adds = gains_so call end law.more e.answer (ended call told none) adds
   gains Closes told none end adds = adds
 

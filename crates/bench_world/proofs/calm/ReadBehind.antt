@@ -80,7 +80,8 @@ module _ (id : DeviceId) (tag : Device) (m : Msg) (answer : Answer) (message : L
 
   told_there : TellsOf at_read.device (answers.Message message r.writable)
   told_there =
-      told_of TellsOf id r.later.world.field.listeners r.read_given.asked (answers.Message message r.writable) at_read.device at_read.found (message_polled message r.writable) (message_failed message r.writable)
+      told_of TellsOf id r.later.world.field.listeners r.read_given.asked (answers.Message message r.writable) at_read.device at_read.found (message_polled message r.writable)
+      (message_failed message r.writable)
       read.tells.polled read.tells.behind read.tells.ends
 
   -- it is a tag, since it told a message
@@ -118,7 +119,8 @@ module _ (id : DeviceId) (tag : Device) (m : Msg) (answer : Answer) (message : L
       subst (λ a. LeavesStore (how_of tag) (size_of tag) (message_of m) writes.place (device_store tag) (ending_told a) last) done passes.leaves in
       one_message last message (message_of m) form left.holds
 
-  module _ (old : List ℕ) (held : IsStoreForm (how_of tag) (size_of tag) (device_store tag) (Message old)) (not_old : message ≡ old → ⊥) (not_empty : message ≡ [] → ⊥) (not_new : message ≡ message_of m → ⊥) where
+  module _ (old : List ℕ) (held : IsStoreForm (how_of tag) (size_of tag) (device_store tag) (Message old)) (not_old : message ≡ old → ⊥) (not_empty : message ≡ [] → ⊥)
+      (not_new : message ≡ message_of m → ⊥) where
     abbrev TellsOther : List ℕ → Type 0
     TellsOther s = IsStoreForm (how_of tag) (size_of tag) s (Message message) → ⊥
 
@@ -137,7 +139,8 @@ module _ (id : DeviceId) (tag : Device) (m : Msg) (answer : Answer) (message : L
   pub one_of_three : (old : List ℕ) → IsStoreForm (how_of tag) (size_of tag) (device_store tag) (Message old) → (message ≡ old) ⊎ (message ≡ []) ⊎ (message ≡ message_of m)
   one_of_three old held = by_old (same_or_not message old) (same_or_not message []) (same_or_not message (message_of m))
     where
-      by_old : (message ≡ old) ⊎ (message ≡ old → ⊥) → (message ≡ []) ⊎ (message ≡ [] → ⊥) → (message ≡ message_of m) ⊎ (message ≡ message_of m → ⊥) → (message ≡ old) ⊎ (message ≡ []) ⊎ (message ≡ message_of m)
+      by_old : (message ≡ old) ⊎ (message ≡ old → ⊥) → (message ≡ []) ⊎ (message ≡ [] → ⊥) → (message ≡ message_of m) ⊎ (message ≡ message_of m → ⊥)
+          → (message ≡ old) ⊎ (message ≡ []) ⊎ (message ≡ message_of m)
       by_old (inl a) b c = inl a
       by_old (inr a) (inl b) c = inr (inl b)
       by_old (inr a) (inr b) (inl c) = inr (inr c)

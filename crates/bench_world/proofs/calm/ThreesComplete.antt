@@ -34,7 +34,8 @@ use Rattle.bench_world.specs.declared.entry.Answer.{Answer}
 use Rattle.bench_world.specs.declared.entry.Answer.TheVariants as answers
 use Rattle.bench_world.specs.declared.entry.Entry.{Entry}
 use Rattle.bench_world.specs.Answering.{TellsFault, poll_answer}
-use Rattle.bench_world.specs.CompletingThrees.{HadSixBad3, IsPlaced3, IsUndisturbed3, OneOfTwo3IsRead, QuietThreesRead, QuietThreesWrite, QuietThreesWritten, Quiet3IsRead, ThreesRead, ThreesWrite, ThreesWritten, Undisturbed3IsRead, Written3IsRead, Written3IsWhole, Writes3ThenReads}
+use Rattle.bench_world.specs.CompletingThrees.{HadSixBad3, IsPlaced3, IsUndisturbed3, OneOfTwo3IsRead, QuietThreesRead, QuietThreesWrite, QuietThreesWritten, Quiet3IsRead, ThreesRead, ThreesWrite}
+use Rattle.bench_world.specs.CompletingThrees.{ThreesWritten, Undisturbed3IsRead, Written3IsRead, Written3IsWhole, Writes3ThenReads}
 use Rattle.bench_world.specs.Legal.{AnswerLaw, FrontOf, Given, LegalStep, Read3Law, State, Writing3Law, state_after, world_after}
 use Rattle.bench_world.specs.Quiet.{AllPass}
 use Rattle.bench_world.specs.Threes.{KeepsStores3, TellsForm3, TellsRead3, TellsWrite3, ThreeEnds, ThreeTells, end_told}
@@ -114,7 +115,8 @@ module _ (Tells : Device → Answer → Type 0) (id : List ℕ) (ds : List Devic
       omega (arith, none, some)
 
 -- An answer that tells of no fault of polling or of a wait tells of the device.
-told_three_of : (Tells : Device → Answer → Type 0) (id : List ℕ) (ds : List Device) (asked : List Signal) (events : List Event) (answer : Answer) → ThreeTells Tells id ds asked events answer → (d : Device)
+told_three_of : (Tells : Device → Answer → Type 0) (id : List ℕ) (ds : List Device) (asked : List Signal) (events : List Event) (answer : Answer) → ThreeTells Tells id ds asked events answer
+    → (d : Device)
     → device_with id ds ≡ Some d → ((e : PollFault) → poll_answer e ≡ Some answer → ⊥) → ((e : AskFault) → TellsFault e answer → ⊥) → Tells d answer
 told_three_of Tells id ds asked events answer t d found polled failed = by_end (found_if (has_three id ds) t.heard) t.ends
   where
@@ -147,7 +149,8 @@ pub threes_written : ThreesWritten
 threes_written s t g e id m d step is p u shows = written_told (message_of m) d e.answer p.kind shows (threes_write s t g e id m d step is p u)
 
 -- So it is where no fate is left but Pass.
-undisturbed : (es : List Event) (id : List ℕ) (asked : List Signal) → noise es ≡ 0 → ((behind : List Note) → seeking id (receptions es) ≡ Told (Ok tt) behind → HadSixBad3 asked behind → ⊥) → IsUndisturbed3 id asked es
+undisturbed : (es : List Event) (id : List ℕ) (asked : List Signal) → noise es ≡ 0 → ((behind : List Note) → seeking id (receptions es) ≡ Told (Ok tt) behind → HadSixBad3 asked behind → ⊥)
+    → IsUndisturbed3 id asked es
 undisturbed es id asked none waits = record { lit = no_breaks es none; once = few_noisy (noisy_tries sensf_req es) (no_noisy _ es none); waits = waits }
 
 pub quiet_threes_read : QuietThreesRead
@@ -160,7 +163,8 @@ pub quiet_threes_write : QuietThreesWrite
 quiet_threes_write s t g e id m d step is p pass =
     let none : noise e.events ≡ 0 = quiet_of s t g e (Write3 id m) step is refl pass in
     let law = (write_law s t g e id m step is).tells in
-    threes_write s t g e id m d step is p (undisturbed e.events id g.asked none (still_waits (TellsWrite3 (message_of m)) id s.world.field.listeners g.asked e.events e.answer law d p.found p.kind none))
+    threes_write s t g e id m d step is p
+    (undisturbed e.events id g.asked none (still_waits (TellsWrite3 (message_of m)) id s.world.field.listeners g.asked e.events e.answer law d p.found p.kind none))
 
 pub quiet_threes_written : QuietThreesWritten
 quiet_threes_written s t g e id m d step is p pass shows = written_told (message_of m) d e.answer p.kind shows (quiet_threes_write s t g e id m d step is p pass)
@@ -210,7 +214,8 @@ module _ (id : List ℕ) (tag : Device) (m : Msg) (answer told : Answer) (r : Wr
 
   on_air : (world_after r.before r.write_given.joins (Write3 id m) es).field ≡ replay air r.before.world.field es
   on_air =
-      let front : FrontOf r.before r.write_given (Write3 id m) es (Some r.write.answer) r.written = subst (λ c. FrontOf r.before r.write_given c es (Some r.write.answer) r.written) r.writing r.writes.front in
+      let front : FrontOf r.before r.write_given (Write3 id m) es (Some r.write.answer) r.written =
+      subst (λ c. FrontOf r.before r.write_given c es (Some r.write.answer) r.written) r.writing r.writes.front in
       field_after r.before r.written r.write_given (Write3 id m) es (λ h. h) front
 
   abbrev now : List Device
@@ -260,7 +265,8 @@ module _ (id : List ℕ) (tag : Device) (m : Msg) (answer told : Answer) (r : Wr
 
   pub tells_quiet_read : AllPass r.later.queue → TellsForm3 last told
   tells_quiet_read pass =
-      let there : TellsRead3 at_read.device told = subst (TellsRead3 at_read.device) r.told' (quiet_threes_read r.later r.after r.read_given r.read id at_read.device r.reads r.reading reads_placed pass) in
+      let there : TellsRead3 at_read.device told =
+      subst (TellsRead3 at_read.device) r.told' (quiet_threes_read r.later r.after r.read_given r.read id at_read.device r.reads r.reading reads_placed pass) in
       subst (λ s. TellsForm3 s told) store_read (of_three (kind_of at_read.device) kind_read _ ⊥ there)
 
   keeps : KeepsWrite3Law message tag (end_told r.write.answer) r.before.world.field es
@@ -295,7 +301,8 @@ pub written_is_read_three : Written3IsRead
 written_is_read_three id tag m message writable r =
     let told : Answer = answers.Message message writable in
     let store : List ℕ = last id tag m answers.Written told r in
-    let here : IsT3Form store (Message message) = message_form store message writable (tells_read id tag m answers.Written told r (message_polled message writable) (message_failed message writable)) in
+    let here : IsT3Form store (Message message) =
+    message_form store message writable (tells_read id tag m answers.Written told r (message_polled message writable) (message_failed message writable)) in
     same_message message (message_of m) (same_form store (Message message) (Message (message_of m)) here (new_left id tag m answers.Written told r refl))
 
 pub written_is_whole_three : Written3IsWhole

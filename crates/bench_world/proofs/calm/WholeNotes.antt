@@ -46,7 +46,8 @@ answered_of (Some Damaged) u z = u
 answered_of (Some Silent) u z = absurd (omega (arith, z))
 
 -- of what is asked without a reset
-pub whole_notes : (next : List Note → Next) → ((ns : List Note) → next ns ≡ LightUp → ⊥) → (before es : List Event) → EachDue next before es → noise es ≡ 0 → bad_receptions es ≡ 0 → AllByRecursion IsAnswered (receptions es)
+pub whole_notes : (next : List Note → Next) → ((ns : List Note) → next ns ≡ LightUp → ⊥) → (before es : List Event) → EachDue next before es → noise es ≡ 0 → bad_receptions es ≡ 0
+    → AllByRecursion IsAnswered (receptions es)
 whole_notes next never before [] each z bads = tt
 whole_notes next never before (Reset ∷ es) each z bads = absurd (never (receptions before) each.0)
 whole_notes next never before (Request f x ∷ es) each z bads =

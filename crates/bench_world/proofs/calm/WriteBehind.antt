@@ -42,7 +42,8 @@ last_image id w (e ∷ es) store = last_image id (air.happens w e) es (held_by (
 
 -- An answer that tells of no fault tells of the device.
 pub told_of : (Tells : Device → Answer → Type 0) (id : DeviceId) (ds : List Device) (asked : List Signal) (answer : Answer) (d : Device) → device_with (bytes_of id) ds ≡ Some d
-    → ((e : PollFault) → poll_answer e ≡ Some answer → ⊥) → ((e : AskFault) → TellsFault e answer → ⊥) → (r : Result SeenKind PollFault) (behind : List Note) → TagEnds Tells id ds asked r behind answer → Tells d answer
+    → ((e : PollFault) → poll_answer e ≡ Some answer → ⊥) → ((e : AskFault) → TellsFault e answer → ⊥) → (r : Result SeenKind PollFault) (behind : List Note)
+    → TagEnds Tells id ds asked r behind answer → Tells d answer
 told_of Tells id ds asked answer d found polled failed (Ok kind) behind ends =
     tells_either (λ a. OfPlaced (λ x. Tells x a) (device_with (bytes_of id) ds)) TellsFault answer (Tells d answer) (λ t. subst (λ o. OfPlaced (λ x. Tells x answer) o) found t)
     (λ e f. absurd (failed e f)) kind asked behind ends

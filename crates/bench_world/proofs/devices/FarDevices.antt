@@ -200,9 +200,11 @@ module _ (w : FarWorld Device PeerState) (place : ℕ) (i : InitState) (a : Peer
           → ((before : List Event) (f : Signal) (y : Fate) (rest : List Event) → es ≡ before ++ Request f y ∷ rest → Outs g (walk_stand g from i (receptions before)))
           → ShowsWell w (far_shown i.core.number (es ++ more)) es (HasCome g (walk_stand g from i (receptions es)))
       walk_shows turns each fit outs =
-          let k = walks_well devices device_linked peer_ends dev (peer_does peer.0 peer.1) IsWithin reads peer_numbered g (IsAside ghosts own) (aside_quiet own) (aside_darkened own) x around i target a
+          let k = walks_well devices device_linked peer_ends dev (peer_does peer.0 peer.1) IsWithin reads peer_numbered g (IsAside ghosts own) (aside_quiet own) (aside_darkened own) x around i target
+          a
           w.numbers talks.step most ok from es more (subst (λ z. AreTurns air z es) world_is turns) each (subst (λ z. RepliesFit devices device_linked peer_ends z es) world_is fit) outs in
-          subst (λ z. ShowsWell z (far_shown i.core.number (es ++ more)) es (HasCome g (walk_stand g from i (receptions es)))) (sym world_is) (record { turns = k.turns; alike = k.alike; done = k.done })
+          subst (λ z. ShowsWell z (far_shown i.core.number (es ++ more)) es (HasCome g (walk_stand g from i (receptions es)))) (sym world_is)
+          (record { turns = k.turns; alike = k.alike; done = k.done })
 
     -- Likewise while the link is closed.
     pub closing_shows : (sent : List ℕ) (from : Step) → AreTurns air w es → EachDue (closing_due sent from i) [] es → RepliesFit devices device_linked peer_ends w es

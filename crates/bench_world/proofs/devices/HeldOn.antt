@@ -13,7 +13,8 @@ use Rattle.air_core.proofs.Following.{trace_first}
 use Rattle.t5t_tag.proofs.Bytes.{equal_bytes}
 use Rattle.bench_script.specs.declared.command.Command.{Command}
 use Rattle.bench_script.specs.declared.command.Command.TheVariants as commands
-use Rattle.bench_script.specs.declared.command.Command.TheVariants.{Skip, Fates, PlaceT2, PlaceT3, PlaceT4, PlaceT5, PlacePeer, Lock, Busy, Offer, Remove, Dump, Inbox, Find, Crowd, Poll3, Read, Read3, Write, Write3, Link, Forge, Raw, Put, Get, Lookup, OnPut, OnGet, Unlink}
+use Rattle.bench_script.specs.declared.command.Command.TheVariants.{Skip, Fates, PlaceT2, PlaceT3, PlaceT4, PlaceT5, PlacePeer, Lock, Busy, Offer, Remove, Dump, Inbox, Find, Crowd, Poll3, Read, Read3}
+use Rattle.bench_script.specs.declared.command.Command.TheVariants.{Write, Write3, Link, Forge, Raw, Put, Get, Lookup, OnPut, OnGet, Unlink}
 use Rattle.bench_script.specs.declared.command.DeviceId.{DeviceId}
 use Rattle.bench_script.specs.DeviceIds.{bytes_of}
 use Rattle.bench_devices.specs.declared.device.Device.{Device}
@@ -23,7 +24,8 @@ use Rattle.bench_devices.specs.Keeping.{Fixed, fixed, Kept, kept, AllStayDevices
 use Rattle.bench_devices.specs.Placed.{device_with, without, with_changed}
 use Rattle.bench_world.specs.declared.entry.Entry.{Entry}
 use Rattle.bench_world.specs.World.{WholeWorld, bench_air, Stable, stable}
-use Rattle.bench_world.specs.Legal.{State, Given, AnswerLaw, ReadLaw, FindLaw, CrowdLaw, SenseLaw, Read3Law, WritingLaw, Writing3Law, LinkingLaw, CallLaw, AnswerBy, LegalStep, EachLegal, world_at_start, changed, due, due_by, world_after, state_after}
+use Rattle.bench_world.specs.Legal.{State, Given, AnswerLaw, ReadLaw, FindLaw, CrowdLaw, SenseLaw, Read3Law, WritingLaw, Writing3Law, LinkingLaw, CallLaw, AnswerBy, LegalStep, EachLegal}
+use Rattle.bench_world.specs.Legal.{world_at_start, changed, due, due_by, world_after, state_after}
 use Rattle.bench_world.specs.Behind.{Touches, LeaveAlone}
 use Rattle.snep_core.specs.Talk.{client_sap, sap_of_slot}
 use Rattle.bench_script.specs.Messages.{message_of}
@@ -114,7 +116,8 @@ module _ (id : List ℕ) where
       by_first named same true = here d (change y) ds (ap (λ i. pointwise nat_eq i id) (own y) ∙ named) (subst (λ z. ReadAlike z (change y)) same (like y))
       by_first named same false = here d y (with_changed change k ds) named (subst (λ z. ReadAlike d z) (sym same) (alike_itself d))
 
-      by_later : pointwise nat_eq (device_id y) id ≡ false → device_with id ds ≡ Some d → Found d (with_changed change k ds) → (v : Bool) → Found d (if v then change y ∷ ds else y ∷ with_changed change k ds)
+      by_later : pointwise nat_eq (device_id y) id ≡ false → device_with id ds ≡ Some d → Found d (with_changed change k ds) → (v : Bool)
+          → Found d (if v then change y ∷ ds else y ∷ with_changed change k ds)
       by_later other later more true = passed d (change y) ds (ap (λ i. pointwise nat_eq i id) (own y) ∙ other) (still_found ds d later)
       by_later other later more false = passed d y (with_changed change k ds) other more
 
@@ -196,7 +199,8 @@ busy_own count times (T5 p) = refl
 busy_own count times (T3 p) = refl
 
 -- A step of a command that asks nothing leads to what the command itself changed.
-pub nothing_happened : (s t : State) (g : Given) (e : Entry) → LegalStep s g e t → (c : Command) → e.command ≡ c → ((ns : List Note) → due s g c ns ≡ Over) → t ≡ state_after s g.joins c [] (Some e.answer)
+pub nothing_happened : (s t : State) (g : Given) (e : Entry) → LegalStep s g e t → (c : Command) → e.command ≡ c → ((ns : List Note) → due s g c ns ≡ Over)
+    → t ≡ state_after s g.joins c [] (Some e.answer)
 nothing_happened s t g e step c is over =
     let each : EachDue (due s g c) [] e.events = subst (λ k. EachDue (due s g k) [] e.events) is step.front.each in
     let turns : AreTurns bench_air (world_at_start s g.joins c) e.events = subst (λ k. AreTurns bench_air (world_at_start s g.joins k) e.events) is step.front.turns in
@@ -230,7 +234,8 @@ module _ (id : DeviceId) (s t : State) (g : Given) (e : Entry) (d : Device) (ste
   -- Commands on the open link; where none is open nothing is asked.
   linked_step : (c : Command) → e.command ≡ c → changed s c ≡ s → (o : Option OpenLink) → s.link ≡ o → (s.link ≡ None → (ns : List Note) → due s g c ns ≡ Over)
       → IfLinked o (λ l. (stable (world_after s g.joins c e.events)).devices ≡ (stable s.world).devices) (Unit {0}) → IsAlike (bytes_of id) d t.world.field.listeners
-  linked_step c is still None at over stays = quiet_step c is (over at) (subst (λ (x : State). IsAlike (bytes_of id) d x.world.field.listeners) (sym still) (still_found (bytes_of id) s.world.field.listeners d found))
+  linked_step c is still None at over stays =
+      quiet_step c is (over at) (subst (λ (x : State). IsAlike (bytes_of id) d x.world.field.listeners) (sym still) (still_found (bytes_of id) s.world.field.listeners d found))
   linked_step c is still (Some l) at over stays = asking_step c is (ap (λ (x : State). x.world.field) still) (stays ∙ sym (ap (λ (x : State). (stable x.world).devices) still))
 
   if_linked : (P Q : OpenLink → Type 0) (R : Type 0) (o : Option OpenLink) → ((l : OpenLink) → P l → Q l) → IfLinked o P R → IfLinked o Q (Unit {0})
@@ -257,7 +262,8 @@ module _ (id : DeviceId) (s t : State) (g : Given) (e : Entry) (d : Device) (ste
   by_command (Lock i block) is alone =
       quiet_step (Lock i block) is (λ ns. refl) (changed_found (bytes_of id) (device_locked block) (bytes_of i) (locked_own block) (locked_alike block) s.world.field.listeners d found)
   by_command (Busy i count times) is alone =
-      quiet_step (Busy i count times) is (λ ns. refl) (changed_found (bytes_of id) (device_busy count times) (bytes_of i) (busy_own count times) (busy_alike count times) s.world.field.listeners d found)
+      quiet_step (Busy i count times) is (λ ns. refl) (changed_found (bytes_of id) (device_busy count times) (bytes_of i) (busy_own count times) (busy_alike count times) s.world.field.listeners d
+      found)
   by_command (Offer i key value) is alone = quiet_step (Offer i key value) is (λ ns. refl) (still_found (bytes_of id) s.world.field.listeners d found)
   by_command (Remove i) is alone = quiet_step (Remove i) is (λ ns. refl) (fewer_found (bytes_of id) (bytes_of i) s.world.field.listeners d alone found)
   by_command (Dump i) is alone = quiet_step (Dump i) is (λ ns. refl) (still_found (bytes_of id) s.world.field.listeners d found)
@@ -277,7 +283,8 @@ module _ (id : DeviceId) (s t : State) (g : Given) (e : Entry) (d : Device) (ste
       let after : t ≡ state_after s g.joins (Write i m) e.events (Some e.answer) = step.front.after ∙ ap (λ k. state_after s g.joins k e.events (Some e.answer)) is in
       subst (λ (x : State). IsAlike (bytes_of id) d x.world.field.listeners) (sym after)
       (beside_found (bytes_of id) (bytes_of i) alone s.world.field.listeners (world_after s g.joins (Write i m) e.events).field.listeners d law.stores.others found)
-  by_command (Link i miu window) is alone = let law : LinkingLaw s g.joins i miu window e.events e.answer = law_of (Link i miu window) is in asking_step (Link i miu window) is refl (ap (λ (z : Stable). z.devices) law.stays)
+  by_command (Link i miu window) is alone = let law : LinkingLaw s g.joins i miu window e.events e.answer = law_of (Link i miu window) is in
+      asking_step (Link i miu window) is refl (ap (λ (z : Stable). z.devices) law.stays)
   by_command (Raw i frames) is alone = absurd (alone tt)
   by_command (Forge i payloads) is alone =
       let law : ForgeLaw s g.joins i payloads e.events e.answer = law_of (Forge i payloads) is in

@@ -125,7 +125,8 @@ module _ (change : Device → Device) (d : Device) (stays : StaysPlaced change d
   all_tidy (b ∷ before) tidy = (tidy.0, all_tidy before tidy.1)
 
 -- a device of these identifier bytes stands at a place
-pub stands_there : (old : Air Device) (id : DeviceId) (bytes : List ℕ) (ls : List Device) (place : ℕ) → bytes ≡ bytes_of id → ls ≡ old.listeners → StandsAt bytes ls place → StandsAt (bytes_of id) old.listeners place
+pub stands_there : (old : Air Device) (id : DeviceId) (bytes : List ℕ) (ls : List Device) (place : ℕ) → bytes ≡ bytes_of id → ls ≡ old.listeners → StandsAt bytes ls place
+    → StandsAt (bytes_of id) old.listeners place
 stands_there old id bytes ls place same all s =
     let P : List ℕ → Type 0 = λ b. StandsAt b ls place in
     subst (λ xs. StandsAt (bytes_of id) xs place) all (subst P same s)
@@ -169,7 +170,12 @@ module _ (old : Air Device) (id : DeviceId) (place : ℕ) (idle : IsIdle old) (s
       ap (with_changed change (bytes_of id)) s.split ∙ changed_behind change s.before s.device s.behind (bytes_of id) s.named sound in
       let fars : shown device_linked peer_ends now os.ends ≡ shown device_linked peer_ends old.listeners os.ends =
       shown_changed change s.device stays s.behind s.before os.ends ∙ ap (λ ls. shown device_linked peer_ends ls os.ends) (sym s.split) in
-      let S : List Device → List (Option FarEnd) → State = λ ls xs. record { world = record { field = record { lit = old.lit; listeners = ls }; fars = xs; numbers = [] }; queue = old.fates; peers = os.peers; link = os.link } in
+      let S : List Device → List (Option FarEnd) → State = λ ls xs. record {
+        world = record { field = record { lit = old.lit; listeners = ls }; fars = xs; numbers = [] };
+        queue = old.fates;
+        peers = os.peers;
+        link = os.link;
+      } in
       let as_many : length old.listeners ≡ length now = ap length s.split ∙ as_long change s.device stays s.behind s.before in
       subst O (sym (is ∙ ap F left))
       (still_obeyed (beneath os old) (beneath os (F now)) c Done idle (accepted os)
@@ -188,11 +194,13 @@ module _ (old : Air Device) (id : DeviceId) (place : ℕ) (idle : IsIdle old) (s
   pub block_locked : (new : Air Device) (block : ℕ) → block < blocks_of s.device
       → new ≡ record { lit = old.lit; listeners = slice_set old.listeners place (device_locked block s.device); fates = old.fates; trace = old.trace } → ObeyedBelow old new (Lock id block) Done
   block_locked new block within is =
-      device_changed new (Lock id block) (device_locked block) (λ h. h) (locked_stays block s.device) (λ os. of_placed (λ d. block < blocks_of d) within) (λ os. refl) (λ os. refl) (λ os. refl) (λ os. refl) is
+      device_changed new (Lock id block) (device_locked block) (λ h. h) (locked_stays block s.device) (λ os. of_placed (λ d. block < blocks_of d) within) (λ os. refl) (λ os. refl) (λ os. refl)
+      (λ os. refl) is
 
   -- it asks for more time from now on
   pub made_busy : (new : Air Device) (count times : ℕ) → may_be_busy s.device ≡ true → count ≤ most_busy → (1 ≤ times) × (times ≤ longest_extension)
-      → new ≡ record { lit = old.lit; listeners = slice_set old.listeners place (device_busy count times s.device); fates = old.fates; trace = old.trace } → ObeyedBelow old new (Busy id count times) Done
+      → new ≡ record { lit = old.lit; listeners = slice_set old.listeners place (device_busy count times s.device); fates = old.fates; trace = old.trace }
+      → ObeyedBelow old new (Busy id count times) Done
   made_busy new count times may few long is =
       let accepted : (os : Upon) → MayBeBusy (state_at (beneath os old)) id count times =
       λ os. record { device = of_placed (λ d. may_be_busy d ≡ true) may; few = few; long = long } in

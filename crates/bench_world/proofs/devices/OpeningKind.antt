@@ -78,7 +78,8 @@ module _ (id : List ℕ) (next : List Note → Next) (goes : Followed SeenKind �
   turned : (b c : Moment WholeWorld) (hs : List Note) (f : Signal) (h : Option Heard) → Polls (picking id) bench_air a b hs → next hs ≡ Asks f → TurnsTo bench_air b c f h
       → (p : Followed Kind) → follows (picking id) hs ≡ p → Course c (hs ++ note h ∷ [])
   unfolding chosen_now
-  turned b c hs f h x due turn (polls.Asks n) at = inl (poll_turn (picking id) bench_air (search_closes (device_of id)) a b c hs f h n x at (sym (asks_first n) ∙ due_by (polls.Asks n) hs (Asks f) at due) turn)
+  turned b c hs f h x due turn (polls.Asks n) at =
+      inl (poll_turn (picking id) bench_air (search_closes (device_of id)) a b c hs f h n x at (sym (asks_first n) ∙ due_by (polls.Asks n) hs (Asks f) at due) turn)
   turned b c hs f h x due turn (Told (Ok kind) ns) at = inr (record { kind = kind; chosen = chosen_now b hs kind ns x at; since = note h ∷ []; is = refl })
   turned b c hs f h x due turn (Told (Err e) ns) at = absurd (let clash : Over ≡ Asks f = sym (ends_there e ns) ∙ due_by (Told (Err e) ns) hs (Asks f) at due in cc)
 
@@ -107,7 +108,8 @@ module _ (id : List ℕ) (next : List Note → Next) (goes : Followed SeenKind �
   one_kind : (j k : SeenKind) (ns ks : List Note) → Told (Ok j) ns ≡ Told (Ok k) ks → j ≡ k
   one_kind j k ns ks e = cc
 
-  tells_now : (b : Moment WholeWorld) (hs : List Note) → Polls (picking id) bench_air a b hs → (k : SeenKind) (behind : List Note) (p : Followed Kind) → follows (picking id) hs ≡ p → kind_by seen_kind p ≡ Told (Ok k) behind
+  tells_now : (b : Moment WholeWorld) (hs : List Note) → Polls (picking id) bench_air a b hs → (k : SeenKind) (behind : List Note) (p : Followed Kind) → follows (picking id) hs ≡ p
+      → kind_by seen_kind p ≡ Told (Ok k) behind
       → Tells k
   tells_now b hs x k behind (polls.Asks n) at told = absurd (let clash : ◌≡◌ {A = Followed SeenKind} (polls.Asks n) (Told (Ok k) behind) = told in cc)
   tells_now b hs x k behind (Told (Ok kind) ns) at told = record { kind = kind; chosen = chosen_now b hs kind ns x at; same = one_kind (seen_kind kind) k ns behind told }
@@ -145,10 +147,12 @@ module _ (id : List ℕ) (next : List Note → Next) (goes : Followed SeenKind �
 
   -- So the placed device is of the kind that is told.
   pub kind_told : IsIdent id → AreTame (map kept a.world.field.listeners) → AreTidy a.world.field.listeners → a.trace ≡ [] → (es : List Event) → AreTurns bench_air a.world es → FatesFrom a.queue es
-      → EachDue next [] es → (d : Device) → device_with id a.world.field.listeners ≡ Some d → (k : SeenKind) (behind : List Note) → selecting (A id) (receptions es) ≡ Told (Ok k) behind → seen_of d ≡ k
+      → EachDue next [] es → (d : Device) → device_with id a.world.field.listeners ≡ Some d → (k : SeenKind) (behind : List Note) → selecting (A id) (receptions es) ≡ Told (Ok k) behind
+      → seen_of d ≡ k
   kind_told ident tame tidy none es made fates each d placed k behind told =
       let end =
-      walk bench_air (λ q. Unit {0}) (λ q xs h. tt) next Course relit (λ b c hs f h x passes due turn. turns_on b c hs f h x due turn) made.moves a [] [] refl (inl (poll_start (picking id) bench_air a)) tt
+      walk bench_air (λ q. Unit {0}) (λ q xs h. tt) next Course relit (λ b c hs f h x passes due turn. turns_on b c hs f h x due turn) made.moves a [] [] refl
+      (inl (poll_start (picking id) bench_air a)) tt
       (subst (EachDue next []) made.made each) (subst (FatesFrom a.queue) made.made fates) in
       let r : Tells k = tells end.0 (receptions es) (subst (Course end.0) (ap receptions (sym made.made)) end.1) k behind told in
       let s : Selected (A id) (field_at a) (field_at r.chosen.mid) (seen_kind r.kind) =

@@ -35,7 +35,8 @@ offered_by_link false key value None = refl
 offered_by_link false key value (Some l) = refl
 
 -- The server at the place of the device with an identifier is given a value, and so it is in the state.
-offered_shown : (key value : List ℕ) (before : List Device) (d : Device) (behind : List Device) (id : List ℕ) (os : List (Option FarEnd)) → device_id d ≡ id → AreSound (map kept (before ++ d ∷ behind))
+offered_shown : (key value : List ℕ) (before : List Device) (d : Device) (behind : List Device) (id : List ℕ) (os : List (Option FarEnd)) → device_id d ≡ id
+    → AreSound (map kept (before ++ d ∷ behind))
     → length os ≡ length (before ++ d ∷ behind)
     → shown device_linked peer_ends (before ++ d ∷ behind) (slice_set os (length before) (option_map (end_offered key value) (get_or os (length before) None)))
     ≡ with_place_changed (end_offered key value) id (before ++ d ∷ behind) (shown device_linked peer_ends (before ++ d ∷ behind) os)
@@ -56,7 +57,8 @@ offered_shown key value (b ∷ before) d behind id (o ∷ os) named sound e =
     ∙ sym (ap (λ v. if v then option_map change here ∷ rest else here ∷ with_place_changed change id (before ++ d ∷ behind) rest) (is_other b before d behind id named sound.1))
 
 -- a value was offered
-pub value_offered : (old new : Machines) (id : DeviceId) (key value : List ℕ) (place : ℕ) → IsSettled old → IsPeerPlaced (state_at old) id → length value < 2 ^ 32 → StandsAt (bytes_of id) old.air.listeners place
+pub value_offered : (old new : Machines) (id : DeviceId) (key value : List ℕ) (place : ℕ) → IsSettled old → IsPeerPlaced (state_at old) id → length value < 2 ^ 32
+    → StandsAt (bytes_of id) old.air.listeners place
     → new ≡ with_end old place (option_map (end_offered key value) (get_or old.ends place None)) → Obeyed old new (Offer id key value) Done
 value_offered old new id key value place settled peer short s is =
     let O : Machines → Type 0 = λ m. Obeyed old m (Offer id key value) Done in
@@ -64,11 +66,17 @@ value_offered old new id key value place settled peer short s is =
     let all : List Device = s.before ++ s.device ∷ s.behind in
     let sound : AreSound (map kept all) = subst (λ ls. AreSound (map kept ls)) s.split settled.idle.tame.sound in
     let long : length old.ends ≡ length all = settled.places.ends ∙ ap length s.split in
-    let fars : shown device_linked peer_ends old.air.listeners (now place) ≡ with_place_changed (end_offered key value) (bytes_of id) old.air.listeners (shown device_linked peer_ends old.air.listeners old.ends) =
+    let fars : shown device_linked peer_ends old.air.listeners (now place) ≡ with_place_changed (end_offered key value) (bytes_of id) old.air.listeners
+    (shown device_linked peer_ends old.air.listeners old.ends) =
     ap (λ n. shown device_linked peer_ends old.air.listeners (now n)) (sym s.at) ∙ ap (λ ls. shown device_linked peer_ends ls (now (length s.before))) s.split
     ∙ offered_shown key value s.before s.device s.behind (bytes_of id) old.ends s.named sound long
     ∙ ap (λ ls. with_place_changed (end_offered key value) (bytes_of id) ls (shown device_linked peer_ends ls old.ends)) (sym s.split) in
-    let S : List (Option FarEnd) → State = λ os. record { world = record { field = record { lit = old.air.lit; listeners = old.air.listeners }; fars = os; numbers = [] }; queue = old.air.fates; peers = old.peers; link = old.link } in
+    let S : List (Option FarEnd) → State = λ os. record {
+      world = record { field = record { lit = old.air.lit; listeners = old.air.listeners }; fars = os; numbers = [] };
+      queue = old.air.fates;
+      peers = old.peers;
+      link = old.link;
+    } in
     let as_long : length (now place) ≡ length old.ends = length-set old.ends place (option_map (end_offered key value) (get_or old.ends place None)) in
     subst O (sym is)
     (still_obeyed old (with_end old place (option_map (end_offered key value) (get_or old.ends place None))) (Offer id key value) Done settled.idle (record { peer = peer; short = short }) (ap S fars)
@@ -78,7 +86,8 @@ value_offered old new id key value place settled peer short s is =
       served = served_offered key value old.air.listeners old.peers.numbers old.ends place settled.places.served;
       apart = settled.places.apart;
     })
-    (keeps_so old (with_end old place (option_map (end_offered key value) (get_or old.ends place None))) refl (λ l at o. open_offered old.air old.ends old.peers l key value place o) settled.link) (λ h. h))
+    (keeps_so old (with_end old place (option_map (end_offered key value) (get_or old.ends place None))) refl (λ l at o. open_offered old.air old.ends old.peers l key value place o) settled.link)
+    (λ h. h))
 
 -- What a server accepted stays without a link, so the same is told.
 inbox_by_link : (links : List LinkRange) (number : Option ℕ) (v : Bool) (o : Option FarEnd) → inbox_at links number (by_link peer_ends v o) ≡ inbox_at links number o
@@ -88,7 +97,8 @@ inbox_by_link links (Some n) false None = refl
 inbox_by_link links (Some n) false (Some l) = refl
 
 -- what a server accepted was told
-pub inbox_told : (old new : Machines) (id : DeviceId) (place : ℕ) (messages : List Received) → IsSettled old → IsPeerPlaced (state_at old) id → StandsAt (bytes_of id) old.air.listeners place → new ≡ old
+pub inbox_told : (old new : Machines) (id : DeviceId) (place : ℕ) (messages : List Received) → IsSettled old → IsPeerPlaced (state_at old) id → StandsAt (bytes_of id) old.air.listeners place
+    → new ≡ old
     → messages ≡ inbox_at old.peers.links (get_or old.peers.numbers place None) (get_or old.ends place None) → Obeyed old new (Inbox id) (answers.Inbox messages)
 inbox_told old new id place messages settled peer s same is =
     let ls : List Device = old.air.listeners in
@@ -108,7 +118,8 @@ inbox_told old new id place messages settled peer s same is =
     ∙ inbox_by_link links number (device_linked s.device) (get_or old.ends (length s.before) None)
     ∙ ap (λ n. inbox_at links (get_or old.peers.numbers n None) (get_or old.ends n None)) s.at ∙ sym is in
     let O : Machines → Type 0 = λ m. Obeyed old m (Inbox id) (answers.Inbox messages) in
-    subst O (sym same) (still_obeyed old old (Inbox id) (answers.Inbox messages) settled.idle peer refl refl refl refl (ap answers.Inbox (sym told)) settled.idle.tame settled.idle.tidy settled.places settled.link (λ h. h))
+    subst O (sym same) (still_obeyed old old (Inbox id) (answers.Inbox messages) settled.idle peer refl refl refl refl (ap answers.Inbox (sym told)) settled.idle.tame settled.idle.tidy settled.places
+    settled.link (λ h. h))
 
 -- The far end at a place is in the state as it says.
 pub far_shown : (ls : List Device) (os : List (Option FarEnd)) (n : ℕ) → n < length ls

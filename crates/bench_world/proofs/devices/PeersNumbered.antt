@@ -104,7 +104,8 @@ places_stay ds es ps qs os us stay same numbers h = record {
   numbers = subst (HaveNumbers es) (sym numbers) (numbers_as ds es ps (kinds_stay ds es stay) h.numbers);
 }
 
-pub places_changed : (change : Device → Device) → ((d : Device) → is_tag (change d) ≡ is_tag d) → (id : List ℕ) (ds : List Device) (ps : List (Option ℕ)) (os : List (Option FarEnd)) → HavePlaces ds ps os
+pub places_changed : (change : Device → Device) → ((d : Device) → is_tag (change d) ≡ is_tag d) → (id : List ℕ) (ds : List Device) (ps : List (Option ℕ)) (os : List (Option FarEnd))
+    → HavePlaces ds ps os
     → HavePlaces (with_changed change id ds) ps os
 places_changed change same id ds ps os h = record {
   fars = h.fars ∙ sym (as_many_changed change id ds);
@@ -118,7 +119,8 @@ places_more ds d ps p os o many one h = record { fars = longer; numbers = number
     longer : length (os ++ o ∷ []) ≡ length (ds ++ d ∷ [])
     longer = length-append os (o ∷ []) ∙ ap (λ n. n + 1) h.fars ∙ sym (length-append ds (d ∷ []))
 
-pub places_less : (id : List ℕ) (ds : List Device) (ps : List (Option ℕ)) (os : List (Option FarEnd)) → HavePlaces ds ps os → HavePlaces (without id ds) (without_place id ds ps) (without_place id ds os)
+pub places_less : (id : List ℕ) (ds : List Device) (ps : List (Option ℕ)) (os : List (Option FarEnd)) → HavePlaces ds ps os
+    → HavePlaces (without id ds) (without_place id ds ps) (without_place id ds os)
 places_less id ds ps os h = record { fars = as_many_left id ds os h.fars; numbers = numbers_less id ds ps h.numbers }
 
 -- so the peer with an identifier has one

@@ -67,7 +67,15 @@ still_obeyed old new c answer idle accepted changes trace asks over law tame tid
     let quiet : new.air.trace ≡ [] = trace ∙ idle.quiet in
     let F : List Event → Type 0 = λ es. FrontOf st nothing c es (Some answer) (state_at new) in
     let dropped : State → State = λ s. record { world = with_numbers s.world []; queue = s.queue; peers = s.peers; link = s.link } in
-    let front : F [] = record { accepted = accepted; asks = asks; takes = none_taken c; turns = record { moves = []; made = refl }; fates = tt; each = tt; after = ap dropped changes ∙ sym (links_stay st no_joins c [] (Some answer) quiet_command) } in
+    let front : F [] = record {
+      accepted = accepted;
+      asks = asks;
+      takes = none_taken c;
+      turns = record { moves = []; made = refl };
+      fates = tt;
+      each = tt;
+      after = ap dropped changes ∙ sym (links_stay st no_joins c [] (Some answer) quiet_command);
+    } in
     record {
       given = nothing;
       joined = refl;
@@ -81,7 +89,8 @@ still_obeyed old new c answer idle accepted changes trace asks over law tame tid
     }
 
 -- fates were appended
-pub fates_added : (old new : Air Device) (fates : List Fate) → IsIdle old → new ≡ record { lit = old.lit; listeners = old.listeners; fates = old.fates ++ fates; trace = old.trace } → ObeyedBelow old new (Fates fates) Done
+pub fates_added : (old new : Air Device) (fates : List Fate) → IsIdle old → new ≡ record { lit = old.lit; listeners = old.listeners; fates = old.fates ++ fates; trace = old.trace }
+    → ObeyedBelow old new (Fates fates) Done
 fates_added old new fates idle is = λ ends peers link places keeps.
     let a : Air Device = record { lit = old.lit; listeners = old.listeners; fates = old.fates ++ fates; trace = old.trace } in
     let O : Air Device → Type 0 = λ x. Obeyed (under ends peers link old) (under ends peers link x) (Fates fates) Done in
@@ -120,7 +129,8 @@ abbrev more_in : State → Device → Option FarEnd → Peers → State
 more_in s d end peers = record { world = with_one_more s.world d end; queue = s.queue; peers = peers; link = s.link }
 
 -- a command that places a device
-place_obeyed : (old : Machines) (c : Command) (d : Device) (end : Option FarEnd) (number : Option ℕ) (peers : Peers) → IsSettled old → Accepts (state_at old) c → changed (state_at old) c ≡ more_in (state_at old) d end peers
+place_obeyed : (old : Machines) (c : Command) (d : Device) (end : Option FarEnd) (number : Option ℕ) (peers : Peers) → IsSettled old → Accepts (state_at old) c
+    → changed (state_at old) c ≡ more_in (state_at old) d end peers
     → IsAskedBy (state_at old) c [] → due (state_at old) nothing c [] ≡ Over → AnswerLaw (state_at old) nothing c [] Done
     → IsSound (kept d) → IsTidy d → IsFree (state_at old) (device_id d) → by_link peer_ends (device_linked d) end ≡ end
     → peers.numbers ≡ old.peers.numbers ++ number ∷ [] → (is_tag d ≡ false → IsServed number end) → AreNumbered (next_number peers) peers.numbers → device_ready d ≡ false → device_selected d ≡ false
@@ -131,7 +141,12 @@ place_obeyed old c d end number peers settled accepted changes asks over law sou
     let idle : IsIdle old.air = settled.idle in
     let beside : AllByRecursion (λ l. IsApart l (kept d)) (map kept ls) = apart_all ls d (none_named ls (device_id d) free.fresh) in
     let room : length (map kept ls) < most_devices = omega (arith, length-map ls kept, free.room) in
-    let S : List (Option FarEnd) → State = λ os. record { world = record { field = record { lit = old.air.lit; listeners = ls ++ d ∷ [] }; fars = os; numbers = [] }; queue = old.air.fates; peers = peers; link = old.link } in
+    let S : List (Option FarEnd) → State = λ os. record {
+      world = record { field = record { lit = old.air.lit; listeners = ls ++ d ∷ [] }; fars = os; numbers = [] };
+      queue = old.air.fates;
+      peers = peers;
+      link = old.link;
+    } in
     let more : length (ls ++ d ∷ []) ≡ length ls + 1 = length-append ls (d ∷ []) in
     let numbers : length old.peers.numbers ≡ length ls = settled.places.numbers in
     let longer : length peers.numbers ≡ length old.peers.numbers + 1 = ap length more_numbers ∙ length-append old.peers.numbers (number ∷ []) in
@@ -141,7 +156,8 @@ place_obeyed old c d end number peers settled accepted changes asks over law sou
     (tidy_more ls d idle.tidy tidy) (record {
       ends = one_longer old.ends ls end d settled.places.ends;
       numbers = omega (arith, longer, more, numbers);
-      served = subst (λ ps. AreServed (ls ++ d ∷ []) ps (old.ends ++ end ∷ [])) (sym more_numbers) (served_more ls d old.peers.numbers number old.ends end numbers settled.places.ends served settled.places.served);
+      served = subst (λ ps. AreServed (ls ++ d ∷ []) ps (old.ends ++ end ∷ [])) (sym more_numbers)
+          (served_more ls d old.peers.numbers number old.ends end numbers settled.places.ends served settled.places.served);
       apart = apart;
     })
     (keeps_so old (with_more old d end peers) refl
@@ -156,14 +172,16 @@ pub t2_placed : (old new : Machines) (id : List ℕ) (blocks : ℕ) (head : List
 t2_placed old new id blocks head settled ident may is =
     let d : Device = new_t2 id (memory_of (4 * blocks) head) in
     let O : Machines → Type 0 = λ m. Obeyed old m (PlaceT2 id blocks head) Done in
-    subst O (sym is) (place_obeyed old (PlaceT2 id blocks head) d None None (with_tag old.peers) settled may refl refl refl refl (ident, refl, may.store) tt may.free (none_shown (device_linked d)) refl (λ e. no_peer e) (numbered_tag (next_number old.peers) old.peers.numbers settled.places.apart) refl refl (λ h. h))
+    subst O (sym is) (place_obeyed old (PlaceT2 id blocks head) d None None (with_tag old.peers) settled may refl refl refl refl (ident, refl, may.store) tt may.free (none_shown (device_linked d))
+    refl (λ e. no_peer e) (numbered_tag (next_number old.peers) old.peers.numbers settled.places.apart) refl refl (λ h. h))
 
 pub t3_placed : (old new : Machines) (id : List ℕ) (blocks : ℕ) (head : List ℕ) → IsSettled old → length id ≡ id_size → ((i : ℕ) → slice_index id i < 256) → MayPlaceT3 (state_at old) id blocks head
     → new ≡ one_more old (new_t3 id (memory_of (16 * blocks) head)) → Obeyed old new (PlaceT3 id blocks head) Done
 t3_placed old new id blocks head settled eight bytes may is =
     let d : Device = new_t3 id (memory_of (16 * blocks) head) in
     let O : Machines → Type 0 = λ m. Obeyed old m (PlaceT3 id blocks head) Done in
-    subst O (sym is) (place_obeyed old (PlaceT3 id blocks head) d None None (with_tag old.peers) settled may refl refl refl refl (eight, bytes, may.store.blocks) tt may.free (none_shown (device_linked d)) refl (λ e. no_peer e) (numbered_tag (next_number old.peers) old.peers.numbers settled.places.apart) refl refl (λ h. h))
+    subst O (sym is) (place_obeyed old (PlaceT3 id blocks head) d None None (with_tag old.peers) settled may refl refl refl refl (eight, bytes, may.store.blocks) tt may.free
+    (none_shown (device_linked d)) refl (λ e. no_peer e) (numbered_tag (next_number old.peers) old.peers.numbers settled.places.apart) refl refl (λ h. h))
 
 pub t4_placed : (old new : Machines) (id : List ℕ) (code : ℕ) (container head : List ℕ) → IsSettled old → IsIdent id → MayPlaceT4 (state_at old) id code container head
     → new ≡ one_more old (new_t4 id code container (memory_of (file_size container) head)) → Obeyed old new (PlaceT4 id code container head) Done
@@ -171,14 +189,18 @@ t4_placed old new id code container head settled ident may is =
     let file : List ℕ = memory_of (file_size container) head in
     let d : Device = new_t4 id code container file in
     let O : Machines → Type 0 = λ m. Obeyed old m (PlaceT4 id code container head) Done in
-    subst O (sym is) (place_obeyed old (PlaceT4 id code container head) d None None (with_tag old.peers) settled may refl refl refl refl (ident, file, refl, may.store, refl, record { made = refl; busy = omega arith; times = (omega arith, omega arith) }) (inr refl) may.free (none_shown (device_linked d)) refl (λ e. no_peer e) (numbered_tag (next_number old.peers) old.peers.numbers settled.places.apart) refl refl (λ h. h))
+    subst O (sym is) (place_obeyed old (PlaceT4 id code container head) d None None (with_tag old.peers) settled may refl refl refl refl
+    (ident, file, refl, may.store, refl, record { made = refl; busy = omega arith; times = (omega arith, omega arith) }) (inr refl) may.free (none_shown (device_linked d)) refl (λ e. no_peer e)
+    (numbered_tag (next_number old.peers) old.peers.numbers settled.places.apart) refl refl (λ h. h))
 
-pub t5_placed : (old new : Machines) (id : List ℕ) (blocks size : ℕ) (head : List ℕ) → IsSettled old → length id ≡ id_size → ((i : ℕ) → slice_index id i < 256) → MayPlaceT5 (state_at old) id blocks size head
+pub t5_placed : (old new : Machines) (id : List ℕ) (blocks size : ℕ) (head : List ℕ) → IsSettled old → length id ≡ id_size → ((i : ℕ) → slice_index id i < 256)
+    → MayPlaceT5 (state_at old) id blocks size head
     → new ≡ one_more old (new_t5 id size (memory_of (size * blocks) head)) → Obeyed old new (PlaceT5 id blocks size head) Done
 t5_placed old new id blocks size head settled eight bytes may is =
     let d : Device = new_t5 id size (memory_of (size * blocks) head) in
     let O : Machines → Type 0 = λ m. Obeyed old m (PlaceT5 id blocks size head) Done in
-    subst O (sym is) (place_obeyed old (PlaceT5 id blocks size head) d None None (with_tag old.peers) settled may refl refl refl refl (refl, eight, bytes, may.store) tt may.free (none_shown (device_linked d)) refl (λ e. no_peer e) (numbered_tag (next_number old.peers) old.peers.numbers settled.places.apart) refl refl (λ h. h))
+    subst O (sym is) (place_obeyed old (PlaceT5 id blocks size head) d None None (with_tag old.peers) settled may refl refl refl refl (refl, eight, bytes, may.store) tt may.free
+    (none_shown (device_linked d)) refl (λ e. no_peer e) (numbered_tag (next_number old.peers) old.peers.numbers settled.places.apart) refl refl (λ h. h))
 
 pub peer_placed : (old new : Machines) (id : List ℕ) (lr miu window limit : ℕ) → IsSettled old → IsIdent id → MayPlacePeer (state_at old) id lr miu window limit
     → new ≡ with_more old (new_peer id lr miu) (Some (new_end miu window limit)) (with_peer old.peers) → Obeyed old new (PlacePeer id lr miu window limit) Done

@@ -10,7 +10,8 @@ use Rattle.nfc_base.specs.Pieces.{most_busy, longest_extension}
 use Rattle.isodep_link.proofs.Heeding.{AreBytes, no_bytes}
 use Rattle.t4t_tag.specs.Store.{file_size}
 use Rattle.bench_script.specs.declared.command.Command.{Command}
-use Rattle.bench_script.specs.declared.command.Command.TheVariants.{Skip, Fates, PlaceT2, PlaceT3, PlaceT4, PlaceT5, PlacePeer, Lock, Busy, Offer, Remove, Dump, Inbox, Find, Crowd, Poll3, Read, Read3, Write, Write3, Link, Forge, Raw, Put, Get, Lookup, OnPut, OnGet, Puts, Unlink}
+use Rattle.bench_script.specs.declared.command.Command.TheVariants.{Skip, Fates, PlaceT2, PlaceT3, PlaceT4, PlaceT5, PlacePeer, Lock, Busy, Offer, Remove, Dump, Inbox, Find, Crowd, Poll3, Read, Read3}
+use Rattle.bench_script.specs.declared.command.Command.TheVariants.{Write, Write3, Link, Forge, Raw, Put, Get, Lookup, OnPut, OnGet, Puts, Unlink}
 use Rattle.bench_script.specs.declared.message.Msg.{Msg}
 use Rattle.bench_script.specs.declared.message.Msg.TheVariants.{Hex, Gen}
 use Rattle.bench_script.specs.DeviceIds.{bytes_of}
@@ -226,10 +227,12 @@ ready_changed s line (PlacePeer id lr miu rw limit) sp is r =
     ready_more s (new_peer id lr miu)
     (sp.6.1, refl, record { lr = lr; miu = miu; code = is.code; size = is.size; few = omega arith; some = omega arith; longest = omega arith; made = refl }) (inr refl) no_bytes is.free r
 ready_changed s line (Lock id block) sp is r =
-    ready_too s.world.field.listeners (with_changed (device_locked block) (bytes_of id) s.world.field.listeners) (all_changed (device_locked block) (locked_stays block) (bytes_of id) s.world.field.listeners)
+    ready_too s.world.field.listeners (with_changed (device_locked block) (bytes_of id) s.world.field.listeners)
+    (all_changed (device_locked block) (locked_stays block) (bytes_of id) s.world.field.listeners)
     (tidy_changed (device_locked block) (locked_tidy block) (bytes_of id) s.world.field.listeners r.tidy) r
 ready_changed s line (Busy id count times) sp is r =
-    ready_too s.world.field.listeners (with_changed (device_busy count times) (bytes_of id) s.world.field.listeners) (all_changed (device_busy count times) (busy_stays count times is.few is.long) (bytes_of id) s.world.field.listeners)
+    ready_too s.world.field.listeners (with_changed (device_busy count times) (bytes_of id) s.world.field.listeners)
+    (all_changed (device_busy count times) (busy_stays count times is.few is.long) (bytes_of id) s.world.field.listeners)
     (tidy_changed (device_busy count times) (busy_tidy count times) (bytes_of id) s.world.field.listeners r.tidy) r
 ready_changed s line (Offer id key value) sp is r = r
 ready_changed s line (Remove id) sp is r = ready_without (bytes_of id) s.world.field.listeners r
@@ -264,7 +267,8 @@ ready_step s t g line e sp step r =
     subst (λ (x : State). IsReady x.world.field.listeners) (sym step.front.after) there
 
 -- So it is wherever entries lead.
-pub ready_behind : (ls : List NumberedLine) (s t : State) (gs : List Given) (js : List Entry) → IsReady s.world.field.listeners → AreEntriesOf ls js → EachLegal s gs js t → IsReady t.world.field.listeners
+pub ready_behind : (ls : List NumberedLine) (s t : State) (gs : List Given) (js : List Entry) → IsReady s.world.field.listeners → AreEntriesOf ls js → EachLegal s gs js t
+    → IsReady t.world.field.listeners
 ready_behind ls s t [] [] r of steps = subst (λ (x : State). IsReady x.world.field.listeners) (sym steps) r
 ready_behind ls s t (g ∷ gs) [] r of steps = absurd steps
 ready_behind ls s t [] (e ∷ js) r of steps = absurd steps
@@ -274,7 +278,8 @@ ready_behind (l ∷ ls) s t (g ∷ gs) (e ∷ js) r of steps = ready_behind ls s
 -- What holds at first, and is kept by each step of a line that is so, holds all along a journal.
 pub along : (I : State → Type 0) (L : List ℕ → Type 0) (P : State → Entry → State → Type 0)
     → ((s t : State) (g : Given) (line : List ℕ) (e : Entry) → I s → L line → Spells line e.command → LegalStep s g e t → P s e t × I t)
-    → (ls : List NumberedLine) (s t : State) (gs : List Given) (js : List Entry) → I s → AllByRecursion (λ (l : NumberedLine). L l.text) ls → AreEntriesOf ls js → EachLegal s gs js t → AllAlong P s (map (λ (g : Given). g.joins) gs) js
+    → (ls : List NumberedLine) (s t : State) (gs : List Given) (js : List Entry) → I s → AllByRecursion (λ (l : NumberedLine). L l.text) ls → AreEntriesOf ls js → EachLegal s gs js t
+    → AllAlong P s (map (λ (g : Given). g.joins) gs) js
 along I L P step ls s t gs [] i all of steps = tt
 along I L P step [] s t gs (e ∷ js) i all of steps = absurd of
 along I L P step (l ∷ ls) s t [] (e ∷ js) i all of steps = absurd steps

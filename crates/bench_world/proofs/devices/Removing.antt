@@ -68,14 +68,16 @@ is_other b before d behind id named apart = by_case (pointwise nat_eq (device_id
     by_case false h = refl
 
 -- no other device has its identifier, so it is the first that has it
-without_behind : (before : List Device) (d : Device) (behind : List Device) (id : List ℕ) → device_id d ≡ id → AreSound (map kept (before ++ d ∷ behind)) → without id (before ++ d ∷ behind) ≡ before ++ behind
+without_behind : (before : List Device) (d : Device) (behind : List Device) (id : List ℕ) → device_id d ≡ id → AreSound (map kept (before ++ d ∷ behind))
+    → without id (before ++ d ∷ behind) ≡ before ++ behind
 without_behind [] d behind id named sound = ap (λ v. if v then behind else d ∷ without id behind) (ap (λ x. pointwise nat_eq x id) named ∙ pointwise_self id)
 without_behind (b ∷ before) d behind id named sound =
     ap (λ v. if v then before ++ d ∷ behind else b ∷ without id (before ++ d ∷ behind)) (is_other b before d behind id named sound.1)
     ∙ ap (λ xs. b ∷ xs) (without_behind before d behind id named sound.2)
 
 -- Without a device and its far end, the others are shown as before.
-end_without : (before : List Device) (d : Device) (behind : List Device) (id : List ℕ) (os : List (Option FarEnd)) → device_id d ≡ id → AreSound (map kept (before ++ d ∷ behind)) → length os ≡ length (before ++ d ∷ behind)
+end_without : (before : List Device) (d : Device) (behind : List Device) (id : List ℕ) (os : List (Option FarEnd)) → device_id d ≡ id → AreSound (map kept (before ++ d ∷ behind))
+    → length os ≡ length (before ++ d ∷ behind)
     → shown device_linked peer_ends (before ++ behind) (remove os (length before)) ≡ without_place id (before ++ d ∷ behind) (shown device_linked peer_ends (before ++ d ∷ behind) os)
 end_without [] d behind id [] named sound e = absurd cc
 end_without [] d behind id (o ∷ os) named sound e =
@@ -89,7 +91,8 @@ end_without (b ∷ before) d behind id (o ∷ os) named sound e =
     ∙ sym (ap (λ v. if v then all else by_link peer_ends (device_linked b) o ∷ without_place id (before ++ d ∷ behind) all) (is_other b before d behind id named sound.1))
 
 -- nor do the others' numbers change
-number_without : (before : List Device) (d : Device) (behind : List Device) (id : List ℕ) (ns : List (Option ℕ)) → device_id d ≡ id → AreSound (map kept (before ++ d ∷ behind)) → length ns ≡ length (before ++ d ∷ behind)
+number_without : (before : List Device) (d : Device) (behind : List Device) (id : List ℕ) (ns : List (Option ℕ)) → device_id d ≡ id → AreSound (map kept (before ++ d ∷ behind))
+    → length ns ≡ length (before ++ d ∷ behind)
     → remove ns (length before) ≡ without_place id (before ++ d ∷ behind) ns
 number_without [] d behind id [] named sound e = absurd cc
 number_without [] d behind id (n ∷ ns) named sound e = sym (ap (λ v. if v then ns else n ∷ without_place id behind ns) (ap (λ x. pointwise nat_eq x id) named ∙ pointwise_self id))
@@ -99,7 +102,8 @@ number_without (b ∷ before) d behind id (n ∷ ns) named sound e =
     ap (λ xs. n ∷ xs) (number_without before d behind id ns named sound.2 more)
     ∙ sym (ap (λ v. if v then ns else n ∷ without_place id (before ++ d ∷ behind) ns) (is_other b before d behind id named sound.1))
 
-shorter : {X : Type 0} (before : List Device) (d : Device) (behind : List Device) (os : List X) → length os ≡ length (before ++ d ∷ behind) → length (remove os (length before)) ≡ length (before ++ behind)
+shorter : {X : Type 0} (before : List Device) (d : Device) (behind : List Device) (os : List X) → length os ≡ length (before ++ d ∷ behind)
+    → length (remove os (length before)) ≡ length (before ++ behind)
 shorter [] d behind [] e = absurd cc
 shorter [] d behind (o ∷ os) e = cc
 shorter (b ∷ before) d behind [] e = absurd cc
@@ -142,7 +146,8 @@ as_many_gone None o os = refl
 as_many_gone (Some n) o os = length-set os n (rests peer_ends o)
 
 -- so of a device that is taken away the state keeps what the machines keep
-gone_shown : (before : List Device) (d : Device) (behind : List Device) (id : List ℕ) (ns : List (Option ℕ)) (os kept_ends : List (Option FarEnd)) → device_id d ≡ id → AreSound (map kept (before ++ d ∷ behind))
+gone_shown : (before : List Device) (d : Device) (behind : List Device) (id : List ℕ) (ns : List (Option ℕ)) (os kept_ends : List (Option FarEnd)) → device_id d ≡ id
+    → AreSound (map kept (before ++ d ∷ behind))
     → length ns ≡ length (before ++ d ∷ behind) → length os ≡ length (before ++ d ∷ behind)
     → with_gone (get_or ns (length before) None) (get_or os (length before) None) kept_ends
     ≡ with_gone (placed_under id (before ++ d ∷ behind) ns) (placed_under id (before ++ d ∷ behind) (shown device_linked peer_ends (before ++ d ∷ behind) os)) kept_ends

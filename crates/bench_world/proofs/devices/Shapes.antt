@@ -8,7 +8,8 @@ use Rattle.std.specs.Cmp.Lexicographic.{pointwise}
 use Rattle.nfc_base.specs.declared.event.Event.{Event}
 use Rattle.air_core.specs.Conversation.{replay}
 use Rattle.bench_script.specs.declared.command.Command.{Command}
-use Rattle.bench_script.specs.declared.command.Command.TheVariants.{Skip, Fates, PlaceT2, PlaceT3, PlaceT4, PlaceT5, PlacePeer, Lock, Busy, Offer, Remove, Dump, Inbox, Find, Crowd, Poll3, Read, Read3, Write, Write3, Link, Forge, Raw, Put, Get, Lookup, OnPut, OnGet, Puts, Unlink}
+use Rattle.bench_script.specs.declared.command.Command.TheVariants.{Skip, Fates, PlaceT2, PlaceT3, PlaceT4, PlaceT5, PlacePeer, Lock, Busy, Offer, Remove, Dump, Inbox, Find, Crowd, Poll3, Read, Read3}
+use Rattle.bench_script.specs.declared.command.Command.TheVariants.{Write, Write3, Link, Forge, Raw, Put, Get, Lookup, OnPut, OnGet, Puts, Unlink}
 use Rattle.bench_script.specs.DeviceIds.{bytes_of}
 use Rattle.bench_script.specs.Script.{Spells, is_skipped}
 use Rattle.bench_script.proofs.Spelling.{spells_one}
@@ -90,7 +91,8 @@ unfolding shape_if shape_with
 with_shape id [] = refl
 with_shape id (d ∷ ds) = by_name (pointwise nat_eq (device_id d) id) (with_shape id ds)
   where
-    by_name : (v : Bool) → shape_if (device_with id ds) ≡ shape_with id (map shape ds) → shape_if (if v then Some d else device_with id ds) ≡ (if v then Some (shape d) else shape_with id (map shape ds))
+    by_name : (v : Bool) → shape_if (device_with id ds) ≡ shape_with id (map shape ds) → shape_if (if v then Some d else device_with id ds)
+        ≡ (if v then Some (shape d) else shape_with id (map shape ds))
     by_name true more = refl
     by_name false more = more
 
@@ -194,7 +196,8 @@ unfolding without_shape
 removed_shape id [] = refl
 removed_shape id (d ∷ ds) = by_name (pointwise nat_eq (device_id d) id) (removed_shape id ds)
   where
-    by_name : (v : Bool) → map shape (without id ds) ≡ without_shape id (map shape ds) → map shape (if v then ds else d ∷ without id ds) ≡ (if v then map shape ds else shape d ∷ without_shape id (map shape ds))
+    by_name : (v : Bool) → map shape (without id ds) ≡ without_shape id (map shape ds) → map shape (if v then ds else d ∷ without id ds)
+        ≡ (if v then map shape ds else shape d ∷ without_shape id (map shape ds))
     by_name true more = refl
     by_name false more = ap (λ xs. shape d ∷ xs) more
 
@@ -229,7 +232,8 @@ changes_alike s t (PlaceT4 id code container head) alike = placed_alike s.world.
 changes_alike s t (PlaceT5 id blocks size head) alike = placed_alike s.world.field.listeners t.world.field.listeners _ alike
 changes_alike s t (PlacePeer id lr miu rw limit) alike = placed_alike s.world.field.listeners t.world.field.listeners _ alike
 changes_alike s t (Lock id block) alike =
-    changed_shape (device_locked block) (locked_shape block) (bytes_of id) s.world.field.listeners ∙ alike ∙ sym (changed_shape (device_locked block) (locked_shape block) (bytes_of id) t.world.field.listeners)
+    changed_shape (device_locked block) (locked_shape block) (bytes_of id) s.world.field.listeners ∙ alike
+    ∙ sym (changed_shape (device_locked block) (locked_shape block) (bytes_of id) t.world.field.listeners)
 changes_alike s t (Busy id count times) alike =
     changed_shape (device_busy count times) (busy_shape count times) (bytes_of id) s.world.field.listeners ∙ alike
     ∙ sym (changed_shape (device_busy count times) (busy_shape count times) (bytes_of id) t.world.field.listeners)
@@ -260,7 +264,8 @@ changes_alike s t Unlink alike = alike
 step_alike : {told : Option Answer} (u s t : State) (g : Given) (c : Command) (es : List Event) → AreAlike u s → FrontOf s g c es told t → AreAlike (changed u c) t
 step_alike u s t g c es alike front =
     let w : WholeWorld = world_at_start s g.joins c in
-    changes_alike u s c alike ∙ sym (stay_alike w.field.listeners (replay bench_air w es).field.listeners (far_stay es w).stay) ∙ sym (ap (λ (x : State). map shape x.world.field.listeners) front.after)
+    changes_alike u s c alike ∙ sym (stay_alike w.field.listeners (replay bench_air w es).field.listeners (far_stay es w).stay)
+    ∙ sym (ap (λ (x : State). map shape x.world.field.listeners) front.after)
 
 -- The lines of a legal journal are taken, and lead on alike.
 record LeadsAlike (lines : List (List ℕ)) (u t : State) : Type 0 where
@@ -281,7 +286,8 @@ lines_alike n (l ∷ ls) u s t gs js of steps alike =
     then_more c spelled accepted rest = record { commands = c ∷ rest.commands; spelled = (spelled, rest.spelled); accepted = (accepted, rest.accepted); alike = rest.alike }
 
     by_entry : (hs : List Given) (ks : List Entry) → AreEntriesOf (record { number = n; text = l } ∷ asking_lines (n + 1) ls) ks → EachLegal s hs ks t
-        → ((is : List Given) (e : Entry) (xs : List Entry) (mid : State) (g : Given) → LegalStep s g e mid → AreEntriesOf (asking_lines (n + 1) ls) xs → EachLegal mid is xs t → LeadsAlike ls (changed u e.command) t)
+        → ((is : List Given) (e : Entry) (xs : List Entry) (mid : State) (g : Given) → LegalStep s g e mid → AreEntriesOf (asking_lines (n + 1) ls) xs → EachLegal mid is xs t
+        → LeadsAlike ls (changed u e.command) t)
         → LeadsAlike (l ∷ ls) u t
     by_entry hs [] p q on = absurd p
     by_entry [] (e ∷ ks) p q on = absurd q
@@ -290,7 +296,8 @@ lines_alike n (l ∷ ls) u s t gs js of steps alike =
     by_skip : (v : Bool) → is_skipped l ≡ v
         → AreEntriesOf (if v then asking_lines (n + 1) ls else record { number = n; text = l } ∷ asking_lines (n + 1) ls) js
         → (AreEntriesOf (asking_lines (n + 1) ls) js → LeadsAlike ls u t)
-        → ((is : List Given) (e : Entry) (xs : List Entry) (mid : State) (g : Given) → LegalStep s g e mid → AreEntriesOf (asking_lines (n + 1) ls) xs → EachLegal mid is xs t → LeadsAlike ls (changed u e.command) t)
+        → ((is : List Given) (e : Entry) (xs : List Entry) (mid : State) (g : Given) → LegalStep s g e mid → AreEntriesOf (asking_lines (n + 1) ls) xs → EachLegal mid is xs t
+        → LeadsAlike ls (changed u e.command) t)
         → LeadsAlike (l ∷ ls) u t
     by_skip true h p skip on = then_more Skip h tt (skip p)
     by_skip false h p skip on = by_entry gs js p steps on

@@ -14,7 +14,8 @@ use Rattle.snep_core.specs.Talk.{client_sap, sap_of_slot}
 use Rattle.link_calls.specs.Asking.{LinkAsking, Does, Closes, Finding, Getting, put_from, Putting}
 use Rattle.bench_script.specs.declared.command.Command.{Command}
 use Rattle.bench_script.specs.declared.command.Command.TheVariants as commands
-use Rattle.bench_script.specs.declared.command.Command.TheVariants.{Skip, Fates, PlaceT2, PlaceT3, PlaceT4, PlaceT5, PlacePeer, Lock, Busy, Offer, Remove, Dump, Inbox, Find, Crowd, Poll3, Read, Read3, Write, Write3, Link, Forge, Raw, Put, Get, Lookup, OnPut, OnGet, Unlink}
+use Rattle.bench_script.specs.declared.command.Command.TheVariants.{Skip, Fates, PlaceT2, PlaceT3, PlaceT4, PlaceT5, PlacePeer, Lock, Busy, Offer, Remove, Dump, Inbox, Find, Crowd, Poll3, Read, Read3}
+use Rattle.bench_script.specs.declared.command.Command.TheVariants.{Write, Write3, Link, Forge, Raw, Put, Get, Lookup, OnPut, OnGet, Unlink}
 use Rattle.bench_script.specs.DeviceIds.{bytes_of}
 use Rattle.bench_script.specs.Messages.{message_of}
 use Rattle.bench_devices.specs.declared.device.Device.{Device}
@@ -30,7 +31,8 @@ use Rattle.bench_world.specs.Asked.{asked_on_link, slot_messages}
 use Rattle.bench_world.specs.Calls.{IfLinked, due_asked, due_if}
 use Rattle.bench_world.specs.Forging.{opens_link}
 use Rattle.bench_world.specs.Links.{OpenLink}
-use Rattle.bench_world.specs.Legal.{AnswerBy, AnswerLaw, CallLaw, CrowdLaw, FindLaw, ForgeLaw, FrontOf, Given, LegalStep, LinkingLaw, MayPlaceT3, MayRaw, Read3Law, ReadLaw, SenseLaw, State, Writing3Law, WritingLaw, world_at_start, changed, due, due_by, state_after, world_after}
+use Rattle.bench_world.specs.Legal.{AnswerBy, AnswerLaw, CallLaw, CrowdLaw, FindLaw, ForgeLaw, FrontOf, Given, LegalStep, LinkingLaw, MayPlaceT3, MayRaw, Read3Law, ReadLaw, SenseLaw, State}
+use Rattle.bench_world.specs.Legal.{Writing3Law, WritingLaw, world_at_start, changed, due, due_by, state_after, world_after}
 use Rattle.bench_world.specs.Threes.{AreWellStored, IfThree, IsWellStored, KeepsStores3, WriteEnd3, end_told}
 use Rattle.bench_world.specs.Writing.{KeepsStores, ending_told}
 use Rattle.bench_world.specs.World.{Stable, WholeWorld, bench_air, stable}
@@ -157,10 +159,12 @@ none_found k (d ∷ ds) (e ∷ es) keep none = by_name (pointwise nat_eq (device
 
 -- The one that a command writes holds such a store then, where that is said of a Type 3 tag.
 own_well : (k : List ℕ) (ds es : List Device) → AllKeepBut k ds es → AreWellStored ds
-    → ((d : Device) → device_with k ds ≡ Some d → kind_of d ≡ T3Kind → three.IsT3Store (device_store d) → three.IsT3Store (held_by (device_with k es))) → IfPlaced IsWellStored (Unit {0}) (device_with k es)
+    → ((d : Device) → device_with k ds ≡ Some d → kind_of d ≡ T3Kind → three.IsT3Store (device_store d) → three.IsT3Store (held_by (device_with k es)))
+    → IfPlaced IsWellStored (Unit {0}) (device_with k es)
 own_well k ds es keep well says = by_found (device_with k ds) refl
   where
-    by_kind : (d e : Device) → device_with k ds ≡ Some d → device_with k es ≡ Some e → (z : DeviceKind) → kind_of d ≡ z → IfThree z (three.IsT3Store (device_store d)) (Unit {0}) → WellBy z (device_store e)
+    by_kind : (d e : Device) → device_with k ds ≡ Some d → device_with k es ≡ Some e → (z : DeviceKind) → kind_of d ≡ z → IfThree z (three.IsT3Store (device_store d)) (Unit {0})
+        → WellBy z (device_store e)
     by_kind d e found there T2Kind is h = tt
     by_kind d e found there T3Kind is h = subst three.IsT3Store (ap held_by there) (says d found is h)
     by_kind d e found there T4Kind is h = tt
@@ -176,14 +180,16 @@ own_well k ds es keep well says = by_found (device_with k ds) refl
         (subst (λ z. WellBy z (device_store own.0)) (sym kind) (by_kind d own.0 found own.1 (kind_of d) refl (with_all IsWellStored k ds d well found)))
 
 -- what is said of each store is said of the last
-held_last : (w : BenchWorld) (es : List Event) (k : List ℕ) (d : Device) → device_with k w.listeners ≡ Some d → three.IsT3Store (device_store d) → AllByRecursion three.IsT3Store (images_of (device_id d) w es)
+held_last : (w : BenchWorld) (es : List Event) (k : List ℕ) (d : Device) → device_with k w.listeners ≡ Some d → three.IsT3Store (device_store d)
+    → AllByRecursion three.IsT3Store (images_of (device_id d) w es)
     → three.IsT3Store (held_by (device_with k (replay air w es).listeners))
 held_last w es k d found own all =
     subst (λ i. three.IsT3Store (held_by (device_with i (replay air w es).listeners))) (found_named k w.listeners d found)
     (subst three.IsT3Store (last_image (device_id d) w es (device_store d)) (last_all three.IsT3Store (device_store d) (images_of (device_id d) w es) own all))
 
 -- A write of another kind of tag leaves a Type 3 tag's store, ...
-still_own : (message : List ℕ) (ending : Ending) (w : BenchWorld) (es : List Event) (k : List ℕ) → IfPlaced (λ d. KeepsStores message d ending w es) (Unit {0}) (device_with k w.listeners) → (d : Device)
+still_own : (message : List ℕ) (ending : Ending) (w : BenchWorld) (es : List Event) (k : List ℕ) → IfPlaced (λ d. KeepsStores message d ending w es) (Unit {0}) (device_with k w.listeners)
+    → (d : Device)
     → device_with k w.listeners ≡ Some d → kind_of d ≡ T3Kind → three.IsT3Store (device_store d) → three.IsT3Store (held_by (device_with k (replay air w es).listeners))
 still_own message ending w es k law d found kind own =
     let here : KeepsStores message d ending w es = subst (λ o. IfPlaced (λ x. KeepsStores message x ending w es) (Unit {0}) o) found law in
@@ -199,7 +205,8 @@ written_own message r w es k law d found kind own =
     let kept' : KeepsWrite3Law message d r w es =
     subst (λ z. IfThree z (KeepsWrite3Law message d r w es) (AllByRecursion (λ s. s ≡ device_store d) (images_of (device_id d) w es))) kind here in
     held_last w es k d found own
-    (all_three (λ s. s ≡ device_store d) (IsBegun message (device_store d)) (IsNew message (device_store d)) three.IsT3Store (λ s e. subst three.IsT3Store (sym e) own) (λ s b. b.store) (λ s n. n.store)
+    (all_three (λ s. s ≡ device_store d) (IsBegun message (device_store d)) (IsNew message (device_store d)) three.IsT3Store (λ s e. subst three.IsT3Store (sym e) own) (λ s b. b.store)
+    (λ s n. n.store)
     (images_of (device_id d) w es) kept'.three)
 
 -- So it is through a legal step.
@@ -242,13 +249,15 @@ module _ (s t : State) (g : Given) (e : Entry) (step : LegalStep s g e t) (sound
 
   -- the store of one device was written
   written_well : (c : Command) (k : List ℕ) → e.command ≡ c → (UsesFars c → ⊥) → (changed s c).world.field ≡ s.world.field → AllKeepBut k ds (world_after s g.joins c e.events).field.listeners
-      → ((d : Device) → device_with k ds ≡ Some d → kind_of d ≡ T3Kind → three.IsT3Store (device_store d) → three.IsT3Store (held_by (device_with k (replay air s.world.field e.events).listeners))) → Well t
+      → ((d : Device) → device_with k ds ≡ Some d → kind_of d ≡ T3Kind → three.IsT3Store (device_store d) → three.IsT3Store (held_by (device_with k (replay air s.world.field e.events).listeners)))
+      → Well t
   written_well c k is quiet still others says =
       let now : BenchWorld = (world_after s g.joins c e.events).field in
       let after : t ≡ state_after s g.joins c e.events (Some e.answer) = step.front.after ∙ ap (λ x. state_after s g.joins x e.events (Some e.answer)) is in
       let on_air : now ≡ replay air s.world.field e.events = field_after s t g c e.events quiet (front_of c is) ∙ ap (λ (w : BenchWorld). replay air w e.events) still in
       let here : (d : Device) → device_with k ds ≡ Some d → kind_of d ≡ T3Kind → three.IsT3Store (device_store d) → three.IsT3Store (held_by (device_with k now.listeners)) =
-      subst (λ (w : BenchWorld). (d : Device) → device_with k ds ≡ Some d → kind_of d ≡ T3Kind → three.IsT3Store (device_store d) → three.IsT3Store (held_by (device_with k w.listeners))) (sym on_air) says in
+      subst (λ (w : BenchWorld). (d : Device) → device_with k ds ≡ Some d → kind_of d ≡ T3Kind → three.IsT3Store (device_store d) → three.IsT3Store (held_by (device_with k w.listeners))) (sym on_air)
+      says in
       subst Well (sym after) (stored_beside k ds now.listeners others sound (own_well k ds now.listeners others well here) well)
 
   by_command : (c : Command) → e.command ≡ c → Well t
@@ -278,7 +287,8 @@ module _ (s t : State) (g : Given) (e : Entry) (step : LegalStep s g e t) (sound
   by_command (Write3 i m) is =
       let law : Writing3Law s g.joins i m g.asked e.events e.answer = law_of (Write3 i m) is in
       written_well (Write3 i m) i is (λ h. h) refl law.stores.others (written_own (message_of m) (end_told e.answer) s.world.field e.events i law.stores.law)
-  by_command (Link i miu window) is = let law : LinkingLaw s g.joins i miu window e.events e.answer = law_of (Link i miu window) is in asked_well (Link i miu window) is refl (ap (λ (z : Stable). z.devices) law.stays)
+  by_command (Link i miu window) is = let law : LinkingLaw s g.joins i miu window e.events e.answer = law_of (Link i miu window) is in
+      asked_well (Link i miu window) is refl (ap (λ (z : Stable). z.devices) law.stays)
   by_command (Forge i payloads) is =
       let law : ForgeLaw s g.joins i payloads e.events e.answer = law_of (Forge i payloads) is in
       asked_well (Forge i payloads) is refl (forge_devices (opens_link i payloads e.events) s g.joins i payloads e.events law.leaves)

@@ -31,7 +31,8 @@ use Rattle.bench_world.specs.Obeying.{Machines, state_at, under, HasPlaces, IsSe
 use Rattle.bench_world.specs.Opened.{IsServed}
 use Rattle.bench_world.specs.World.{FarEnd}
 use Rattle.bench_world.proofs.open_link.Unlinking.{upon}
-use Rattle.bench_world.proofs.forged.ForgeObeyed.{ended_forge, left_so, lost_forge, missed_forge, room_cut_forge, selection_cut_forge, served_there, short_forge, tag_forge, unopened_cut_forge, walked_forge}
+use Rattle.bench_world.proofs.forged.ForgeObeyed.{ended_forge, left_so, lost_forge, missed_forge, room_cut_forge, selection_cut_forge, served_there, short_forge, tag_forge, unopened_cut_forge}
+use Rattle.bench_world.proofs.forged.ForgeObeyed.{walked_forge}
 
 module _ (m : Machines) (settled : IsSettled m) (unlinked : m.link ≡ None) (id : List ℕ) (payloads : List (List ℕ)) (counts : List ℕ) (may : MayForge payloads) where
   abbrev c : Command
@@ -112,7 +113,8 @@ module _ (m : Machines) (settled : IsSettled m) (unlinked : m.link ≡ None) (id
         module _ (p : InitState × ArrayVec ℕ) (came : x.sends.came ≡ Ok p) where
           abbrev opened_left : Machines
           opened_left =
-              left_so m.ends m.peers m.air id payloads counts settled.idle there may mid place s peer far served.stands x.sends.mid x.sends.half x.sends.came asked p came n served.numbered x.air x.after.end
+              left_so m.ends m.peers m.air id payloads counts settled.idle there may mid place s peer far served.stands x.sends.mid x.sends.half x.sends.came asked p came n served.numbered x.air
+              x.after.end
 
           opened_is : (r : Result (List (List ℕ)) EndCause) → x.sent ≡ Ok r → opened_left ≡ now
           opened_is r is = ap (λ l. under opened_left.ends opened_left.peers l x.air) (sym unlinked) ∙ left_is (Ok r) is
@@ -120,19 +122,23 @@ module _ (m : Machines) (settled : IsSettled m) (unlinked : m.link ≡ None) (id
           by_end : (r : Result (List (List ℕ)) EndCause) → x.sent ≡ Ok r → GoesBehind payloads x.sends.mid x.sends.half (Ok p) x.air x.after (Ok r) → All (told_sent (Ok r))
           by_end (Ok replies) is (j, walked) =
               obeyed_now opened_left (answers.Replies replies) (opened_is (Ok replies) is)
-              (walked_forge m.ends m.peers m.air id payloads counts settled.idle there may mid place s peer far served.stands x.sends.mid x.sends.half x.sends.came asked p came n served.numbered x.air j x.after replies walked)
+              (walked_forge m.ends m.peers m.air id payloads counts settled.idle there may mid place s peer far served.stands x.sends.mid x.sends.half x.sends.came asked p came n served.numbered x.air
+              j x.after replies walked)
           by_end (Err causes.FieldLost) is (j, ended) =
               obeyed_now opened_left (answers.LinkEnded losses.FieldLost) (opened_is (Err causes.FieldLost) is)
-              (lost_forge m.ends m.peers m.air id payloads counts settled.idle there may mid place s peer far served.stands x.sends.mid x.sends.half x.sends.came asked p came n served.numbered x.air j x.after causes.FieldLost
+              (lost_forge m.ends m.peers m.air id payloads counts settled.idle there may mid place s peer far served.stands x.sends.mid x.sends.half x.sends.came asked p came n served.numbered x.air j
+              x.after causes.FieldLost
               (answers.LinkEnded losses.FieldLost) ended refl)
           by_end (Err causes.SixBad) is (j, ended) =
               obeyed_now opened_left (answers.LinkEnded losses.SixBad) (opened_is (Err causes.SixBad) is)
-              (lost_forge m.ends m.peers m.air id payloads counts settled.idle there may mid place s peer far served.stands x.sends.mid x.sends.half x.sends.came asked p came n served.numbered x.air j x.after causes.SixBad
+              (lost_forge m.ends m.peers m.air id payloads counts settled.idle there may mid place s peer far served.stands x.sends.mid x.sends.half x.sends.came asked p came n served.numbered x.air j
+              x.after causes.SixBad
               (answers.LinkEnded losses.SixBad) ended refl)
           by_end (Err causes.Protocol) is (j, never) = absurd never
           by_end (Err causes.Memory) is (j, short) =
               stops_now opened_left (opened_is (Err causes.Memory) is)
-              (short_forge m.ends m.peers m.air id payloads counts settled.idle there may mid place s peer far served.stands x.sends.mid x.sends.half x.sends.came asked p came n served.numbered x.air j x.after short)
+              (short_forge m.ends m.peers m.air id payloads counts settled.idle there may mid place s peer far served.stands x.sends.mid x.sends.half x.sends.came asked p came n served.numbered x.air
+              j x.after short)
 
         -- or none was
         abbrev unopened : Air Device → FarEnd → Machines
@@ -146,16 +152,19 @@ module _ (m : Machines) (settled : IsSettled m) (unlinked : m.link ≡ None) (id
         by_cause : (why : EndCause) → x.sends.came ≡ Err why → x.sent ≡ Err why → x.air ≡ x.sends.mid → x.after ≡ x.sends.half → All (told_sent (Err why))
         by_cause causes.FieldLost came is same after =
             obeyed_now (unopened x.sends.mid x.sends.half.end) (answers.LinkEnded losses.FieldLost) (unopened_is causes.FieldLost is same after)
-            (ended_forge m.ends m.peers m.air id payloads counts settled.idle there may mid place s peer far served.stands x.sends.mid x.sends.half x.sends.came asked causes.FieldLost (answers.LinkEnded losses.FieldLost) came refl)
+            (ended_forge m.ends m.peers m.air id payloads counts settled.idle there may mid place s peer far served.stands x.sends.mid x.sends.half x.sends.came asked causes.FieldLost
+            (answers.LinkEnded losses.FieldLost) came refl)
         by_cause causes.SixBad came is same after =
             obeyed_now (unopened x.sends.mid x.sends.half.end) (answers.LinkEnded losses.SixBad) (unopened_is causes.SixBad is same after)
-            (ended_forge m.ends m.peers m.air id payloads counts settled.idle there may mid place s peer far served.stands x.sends.mid x.sends.half x.sends.came asked causes.SixBad (answers.LinkEnded losses.SixBad) came refl)
+            (ended_forge m.ends m.peers m.air id payloads counts settled.idle there may mid place s peer far served.stands x.sends.mid x.sends.half x.sends.came asked causes.SixBad
+            (answers.LinkEnded losses.SixBad) came refl)
         by_cause causes.Protocol came is same after = absurd (subst (OpeningEnds x.sends.mid place s.device) came asked.ends)
         by_cause causes.Memory came is same after =
             stops_now (unopened x.sends.mid x.sends.half.end) (unopened_is causes.Memory is same after)
             (inl (unopened_cut_forge m.ends m.peers m.air id payloads counts settled.idle there may mid place s peer far served.stands x.sends.mid x.sends.half x.sends.came asked came))
 
-        by_sent : (came : Result (InitState × ArrayVec ℕ) EndCause) (sent : Sent) → x.sends.came ≡ came → x.sent ≡ sent → GoesBehind payloads x.sends.mid x.sends.half came x.air x.after sent → All (told_sent sent)
+        by_sent : (came : Result (InitState × ArrayVec ℕ) EndCause) (sent : Sent) → x.sends.came ≡ came → x.sent ≡ sent → GoesBehind payloads x.sends.mid x.sends.half came x.air x.after sent
+            → All (told_sent sent)
         by_sent (Ok p) (Ok r) came is b = by_end p came r is b
         by_sent (Ok p) (Err why) came is b = absurd b
         by_sent (Err why) sent came is (sent_is, same, after) = subst (λ z. All (told_sent z)) (sym sent_is) (by_cause why came (is ∙ sent_is) same after)

@@ -101,7 +101,8 @@ unlinked_by kind payloads (polls.Asks n) h = refl
 unlinked_by kind payloads (Told (Ok x) ns) h = ap (peer_linked payloads (kind x)) h ∙ none_linked payloads (kind x)
 unlinked_by kind payloads (Told (Err e) ns) h = refl
 
-pub selecting_unlinked : (id : List ℕ) (payloads : List (List ℕ)) (a b : Moment (World Device)) (ns : List Note) → Going air (λ ks. asks (selecting (A id) ks)) a b ns → linked_then payloads (selecting (A id) ns) ≡ false
+pub selecting_unlinked : (id : List ℕ) (payloads : List (List ℕ)) (a b : Moment (World Device)) (ns : List Note) → Going air (λ ks. asks (selecting (A id) ks)) a b ns
+    → linked_then payloads (selecting (A id) ns) ≡ false
 selecting_unlinked id payloads a b ns g =
     let closes : Closes (picking id) = search_closes (device_of id) in
     let same : (ks : List Note) → asks (selecting (A id) ks) ≡ enquiring (picking id) ks = λ ks. kind_asks seen_kind (follows (picking id) ks) ∙ asks_same (picking id) closes ks in
@@ -118,7 +119,8 @@ selecting_unlinked id payloads a b ns g =
     (no_rest (picking id) closes (picking id).start ((picking id).ended (picking id).start) ns refl (going_driven (picking id) air a b ns k))
 
 -- what was said turn by turn was due before each note
-pub due_driven : {L F : Type 0} (m : Machine L) (restarts : F → List ℕ → F → Type 0) (steps : F → List ℕ → List ℕ → F → Type 0) (next : List Note → Next) (ns before : List Note) (old : Air L) (far : F) (new : Air L) (after : F)
+pub due_driven : {L F : Type 0} (m : Machine L) (restarts : F → List ℕ → F → Type 0) (steps : F → List ℕ → List ℕ → F → Type 0) (next : List Note → Next) (ns before : List Note) (old : Air L)
+    (far : F) (new : Air L) (after : F)
     → DueTurns m restarts steps next before old far ns new after → Driven next before ns
 due_driven m restarts steps next [] before old far new after d = tt
 due_driven m restarts steps next (n ∷ ns) before old far new after (f, h, mid, half, due, known, turn, rest) =
@@ -176,7 +178,8 @@ module _ (payloads : List (List ℕ)) where
   abbrev pub At_first : InitState → Forging
   At_first i = Exchanges (walk_at by_hand (sending payloads []) i)
 
-  by_told : (ns before : List Note) (b : ℕ) (f : Signal) (p : InitState × ArrayVec ℕ) (o : Option (ℕ × ArrayVec ℕ)) → stand 0 (atr ∷ []) ns ≡ Asking b [] → ns ≡ before ++ Got (Whole f) ∷ [] → told_atr (spelled f) ≡ o
+  by_told : (ns before : List Note) (b : ℕ) (f : Signal) (p : InitState × ArrayVec ℕ) (o : Option (ℕ × ArrayVec ℕ)) → stand 0 (atr ∷ []) ns ≡ Asking b [] → ns ≡ before ++ Got (Whole f) ∷ []
+      → told_atr (spelled f) ≡ o
       → Ok p ≡ told_initiator o → forge_stand payloads (Activates 0) ns ≡ At_first p.0
   by_told ns before b f p None at split told is = absurd cc
   by_told ns before b f p (Some q) at split told is =

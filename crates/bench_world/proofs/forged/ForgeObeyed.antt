@@ -1,5 +1,6 @@
 -- Payloads that were written by hand were sent to a peer, or they were not: it wasn't found, it was a tag, or no link was opened.
-use Rattle.std.proofs.Common.{◌≡◌, ◌↔◌, inl, inr, ℕ, ◌<◌, List, [], ◌∷◌, ◌++◌, map, length, Bool, true, false, if◌then◌else◌, Option, Some, None, Result, Ok, Err, refl, sym, ◌∙◌, ap, subst, append_assoc}
+use Rattle.std.proofs.Common.{◌≡◌, ◌↔◌, inl, inr, ℕ, ◌<◌, List, [], ◌∷◌, ◌++◌, map, length, Bool, true, false, if◌then◌else◌, Option, Some, None, Result, Ok, Err, refl, sym, ◌∙◌, ap, subst}
+use Rattle.std.proofs.Common.{append_assoc}
 use Rattle.std.specs.Prelude.{get_or, slice_set, drop, IfOk}
 use Rattle.std.specs.List.{AllByRecursion}
 use Rattle.std.proofs.Math.Seq.{drop-append_seam}
@@ -77,7 +78,8 @@ use Rattle.bench_world.specs.Answering.{poll_answer}
 use Rattle.bench_world.specs.Arriving.{ArrivesWithin, ArrivesCutWithin}
 use Rattle.bench_world.specs.Calls.{OfEnd, told_loss, with_accepted}
 use Rattle.bench_world.specs.private.ForgedAt.{ForgeStops}
-use Rattle.bench_world.specs.Forging.{Forging, Activates, Exchanges, Unlinked, ForgeEnds, ForgeTells, forge_due, forge_stand, forged_general, forging, is_linked, linked_then, opens_link, then_forges, told_forging, told_walk}
+use Rattle.bench_world.specs.Forging.{Forging, Activates, Exchanges, Unlinked, ForgeEnds, ForgeTells, forge_due, forge_stand, forged_general, forging, is_linked, linked_then, opens_link, then_forges}
+use Rattle.bench_world.specs.Forging.{told_forging, told_walk}
 use Rattle.bench_world.specs.Legal.{State, Given, Joins, MayForge, CutFront, ForgeCutLeaves, ForgeLaw, ForgeLeaves, FrontOf, LeavesStable, peers_after, peers_forged, world_after}
 use Rattle.bench_world.specs.Halting.{ForgeHalts}
 use Rattle.bench_world.specs.Linking.{IsFieldLost}
@@ -104,7 +106,8 @@ use Rattle.bench_world.proofs.open_link.Unlinking.{accepted_shown}
 use Rattle.bench_world.proofs.open_link.WalkNotes.{walk_broken, walk_lost, walks_plain}
 use Rattle.bench_world.proofs.calm.WholeNotes.{whole_notes}
 
-module _ (ends : Ends) (peers : Peers) (old : Air Device) (id : List ℕ) (payloads : List (List ℕ)) (counts : List ℕ) (idle : IsIdle old) (places : HasPlaces (under ends peers None old)) (may : MayForge payloads) where
+module _ (ends : Ends) (peers : Peers) (old : Air Device) (id : List ℕ) (payloads : List (List ℕ)) (counts : List ℕ) (idle : IsIdle old) (places : HasPlaces (under ends peers None old))
+    (may : MayForge payloads) where
   abbrev before : Machines
   before = under ends peers None old
 
@@ -173,7 +176,8 @@ module _ (ends : Ends) (peers : Peers) (old : Air Device) (id : List ℕ) (paylo
       apart = subst (λ gs. AreNumbered (length gs) p.numbers) (sym gone) (subst (AreNumbered (next_number peers)) (sym numbers) places.apart);
     }
 
-    obeyed : (answer : Answer) (p : Peers) → p ≡ peers_after st J c es (Some answer) → p.numbers ≡ peers.numbers → p.gone ≡ peers.gone → length os ≡ length ends → AreServed new.listeners peers.numbers os
+    obeyed : (answer : Answer) (p : Peers) → p ≡ peers_after st J c es (Some answer) → p.numbers ≡ peers.numbers → p.gone ≡ peers.gone → length os ≡ length ends
+        → AreServed new.listeners peers.numbers os
         → AreTidy new.listeners → forging id payloads notes ≡ Over → ForgeLaw st J id payloads es answer → ObeyedBy J before (under os p None new) c answer
     obeyed answer p peers_so numbers gone long served tidy over law =
         let N : Machines = under os p None new in
@@ -227,7 +231,8 @@ module _ (ends : Ends) (peers : Peers) (old : Air Device) (id : List ℕ) (paylo
         subst (λ v. ForgeLeaves v st J id payloads (es new ends counts hs quiet same)) (sym (opens_is new ends counts hs quiet same ∙ none_open)) stays
 
     -- told by what polling came to, of a device that has no link
-    over_now : (answer : Answer) → forging id payloads hs ≡ Over → ForgeTells id old.listeners payloads (es new ends counts hs quiet same) answer → ObeyedBy J before (under ends peers None new) c answer
+    over_now : (answer : Answer) → forging id payloads hs ≡ Over → ForgeTells id old.listeners payloads (es new ends counts hs quiet same) answer
+        → ObeyedBy J before (under ends peers None new) c answer
     over_now answer over tells =
         obeyed new ends counts hs quiet same answer peers (none_peers new ends counts hs quiet same none_open (Some answer)) refl refl refl
         (served_same old.listeners new.listeners peers.numbers ends same places.served) (going_tidy (λ ks. asks (selecting (A id) ks)) (moment old) (moment new) hs k idle.tidy) over
@@ -239,7 +244,8 @@ module _ (ends : Ends) (peers : Peers) (old : Air Device) (id : List ℕ) (paylo
         (subst (λ v. ForgeCutLeaves v st J id payloads (es new ends counts hs quiet same)) (sym (opens_is new ends counts hs quiet same ∙ none_open)) stays)
 
   -- it wasn't found
-  pub missed_forge : (new : Air Device) (e : PollFault) (answer : Answer) → Selects (A id) (Err e) (moment old) (moment new) → poll_answer e ≡ Some answer → ObeyedBy J before (under ends peers None new) c answer
+  pub missed_forge : (new : Air Device) (e : PollFault) (answer : Answer) → Selects (A id) (Err e) (moment old) (moment new) → poll_answer e ≡ Some answer
+      → ObeyedBy J before (under ends peers None new) c answer
   missed_forge new e answer s is =
       let hs : List Note = s.asked.notes in
       let k : Going air (λ ks. asks (selecting (A id) ks)) (moment old) (moment new) hs = s.asked.going in
@@ -309,7 +315,12 @@ module _ (ends : Ends) (peers : Peers) (old : Air Device) (id : List ℕ) (paylo
           cause = tt;
           ends = tag_ends s.device tag;
           lost = (
-            (λ lost. absurd (elim lost [ inl dark ↦ (let clash : answers.WrongKind ≡ answers.FieldLost = dark in cc) | inr ended ↦ (let clash : answers.WrongKind ≡ answers.LinkEnded losses.FieldLost = ended in cc) ])),
+            (λ lost. absurd
+                (elim lost [
+                  | inl dark ↦ (let clash : answers.WrongKind ≡ answers.FieldLost = dark in cc)
+                  | inr ended ↦
+                      (let clash : answers.WrongKind ≡ answers.LinkEnded losses.FieldLost = ended in cc)
+                ])),
             (λ broken. absurd (no_break (subst (λ xs. 0 < breaks xs) all broken))),
           );
           noisy = λ six. absurd (let clash : answers.WrongKind ≡ answers.LinkEnded losses.SixBad = six in cc);
@@ -342,12 +353,15 @@ module _ (ends : Ends) (peers : Peers) (old : Air Device) (id : List ℕ) (paylo
 
       opening : FarGoing devices device_linked peer_ends (linking (A id) forged_general) (moment old) (moment one) (hs ++ o.notes) place ends at_first half × (half.numbers ≡ counts)
       opening =
-          opens_far (RestartsCounted serving) (AnswersCounted serving) peer_ends (λ x. x) ends_table (counted_step serving) (A id) forged_general place s.device came old mid one at_first half hs chosen told s.stands peer o ends
+          opens_far (RestartsCounted serving) (AnswersCounted serving) peer_ends (λ x. x) ends_table (counted_step serving) (A id) forged_general place s.device came old mid one at_first half hs
+          chosen told s.stands peer o ends
 
-      to_bench : (next : List Note → Next) (b : Air Device) (ns : List Note) (after : Choosing FarEnd) → FarGoing devices device_linked peer_ends next (moment old) (moment b) ns place ends at_first after
+      to_bench : (next : List Note → Next) (b : Air Device) (ns : List Note) (after : Choosing FarEnd)
+          → FarGoing devices device_linked peer_ends next (moment old) (moment b) ns place ends at_first after
           → Going bench_air next (seen_at device_linked peer_ends (moment old) ends counts) (seen_at device_linked peer_ends (moment b) (slice_set ends place (Some after.end)) after.numbers) ns
       to_bench next b ns after g =
-          let P : Ends → Type 0 = λ os. Going bench_air next (seen_at device_linked peer_ends (moment old) os counts) (seen_at device_linked peer_ends (moment b) (slice_set ends place (Some after.end)) after.numbers) ns in
+          let P : Ends → Type 0 = λ os. Going bench_air next (seen_at device_linked peer_ends (moment old) os counts)
+          (seen_at device_linked peer_ends (moment b) (slice_set ends place (Some after.end)) after.numbers) ns in
           let Q : Ends → Type 0 = λ os. Going bench_air next (seen_with device_linked peer_ends (moment old) ends place at_first) (seen_at device_linked peer_ends (moment b) os after.numbers) ns in
           subst P (far_there ends place far there) (subst Q (far_set ends place far after.end there) g)
 
@@ -355,7 +369,8 @@ module _ (ends : Ends) (peers : Peers) (old : Air Device) (id : List ℕ) (paylo
       abbrev first_notes : List Note
       first_notes = hs ++ o.notes
 
-      asked_so : Going bench_air (forging id payloads) (seen_at device_linked peer_ends (moment old) ends counts) (seen_at device_linked peer_ends (moment one) (slice_set ends place (Some half.end)) half.numbers) first_notes
+      asked_so : Going bench_air (forging id payloads) (seen_at device_linked peer_ends (moment old) ends counts)
+          (seen_at device_linked peer_ends (moment one) (slice_set ends place (Some half.end)) half.numbers) first_notes
       asked_so =
           let q = to_bench (linking (A id) forged_general) one first_notes half opening.0 in
           record {
@@ -471,7 +486,8 @@ module _ (ends : Ends) (peers : Peers) (old : Air Device) (id : List ℕ) (paylo
               ends = ap told_forging at ∙ told_so;
               lost = (
                 (λ l. subst (λ xs. 0 < breaks xs) (sym parts_one) (more_breaks chosen.events o.speaks.events (o.lost.0 (is ∙ ap Err (lost.1 l))))),
-                (λ some. lost.0 (let both : ◌≡◌ {A = Result (InitState × ArrayVec ℕ) EndCause} (Err why) (Err causes.FieldLost) = sym is ∙ o.lost.1 (rest_breaks chosen.events o.speaks.events no_break (subst (λ xs. 0 < breaks xs) parts_one some)) in cc)),
+                (λ some. lost.0 (let both : ◌≡◌ {A = Result (InitState × ArrayVec ℕ) EndCause} (Err why) (Err causes.FieldLost) = sym is
+                    ∙ o.lost.1 (rest_breaks chosen.events o.speaks.events no_break (subst (λ xs. 0 < breaks xs) parts_one some)) in cc)),
               );
               noisy = λ six. subst (λ xs. 0 < noise xs) (sym parts_one) (more_noise chosen.events o.speaks.events (o.noisy (is ∙ ap Err (six_is why answer told_so six))));
               calm = λ none_bad. heard_whole (subst (λ xs. noise xs ≡ 0) (parts_one ∙ sym until) none_bad);
@@ -527,14 +543,16 @@ module _ (ends : Ends) (peers : Peers) (old : Air Device) (id : List ℕ) (paylo
         placed =
             let sound : AreSound (map kept (stands.before ++ stands.device ∷ stands.behind)) = subst (λ xs. AreSound (map kept xs)) stands.split idle.tame.sound in
             let many : length peers.numbers ≡ length (stands.before ++ stands.device ∷ stands.behind) = places.numbers ∙ ap length stands.split in
-            ap (λ ls. placed_under id ls peers.numbers) stands.split ∙ under_at stands.before stands.device stands.behind id peers.numbers stands.named sound many ∙ ap (λ k. get_or peers.numbers k None) stands.at ∙ numbered
+            ap (λ ls. placed_under id ls peers.numbers) stands.split ∙ under_at stands.before stands.device stands.behind id peers.numbers stands.named sound many
+            ∙ ap (λ k. get_or peers.numbers k None) stands.at ∙ numbered
 
         abbrev from : List Note → Next
         from = walk_due by_hand (sending payloads []) p.0
 
         stand_on : (ks : List Note) → forge_stand payloads (Activates 0) (o.notes ++ ks) ≡ Exchanges (walk_stand by_hand (sending payloads []) p.0 ks)
         stand_on ks =
-            let at : first_stand ≡ At_first payloads p.0 = opened_by payloads o.notes p (stand 0 (atr_frame forged_general ∷ []) o.notes) refl (subst (AnswersAtr true o.notes (stand 0 (atr_frame forged_general ∷ []) o.notes)) is o.answers) in
+            let at : first_stand ≡ At_first payloads p.0 = opened_by payloads o.notes p (stand 0 (atr_frame forged_general ∷ []) o.notes) refl
+            (subst (AnswersAtr true o.notes (stand 0 (atr_frame forged_general ∷ []) o.notes)) is o.answers) in
             stands_on payloads o.notes ks (Activates 0) ∙ ap (λ x. forge_stand payloads x ks) at ∙ exchanges payloads ks (walk_at by_hand (sending payloads []) p.0)
 
         behind_is : (ks : List Note) → forging id payloads (first_notes ++ ks) ≡ from ks
@@ -594,7 +612,8 @@ module _ (ends : Ends) (peers : Peers) (old : Air Device) (id : List ℕ) (paylo
           has_now : (w : WholeWorld) → seen device_linked peer_ends (moment d).world os [] ≡ w → OfEnd (λ x. x.service.accepted ≡ e.service.accepted) (end_numbered n peers.numbers w.fars)
           has_now w at =
               subst (λ (z : WholeWorld). OfEnd (λ x. x.service.accepted ≡ e.service.accepted) (end_numbered n peers.numbers z.fars)) at
-              (subst (OfEnd (λ x. x.service.accepted ≡ e.service.accepted)) (sym (end_shown n place peers.numbers d.listeners os e first_numbered many_d there_d)) (same_accepted (linked_at place d.listeners) e))
+              (subst (OfEnd (λ x. x.service.accepted ≡ e.service.accepted)) (sym (end_shown n place peers.numbers d.listeners os e first_numbered many_d there_d))
+              (same_accepted (linked_at place d.listeners) e))
 
           came_within : (ns : List ℕ) (w : WholeWorld) → seen device_linked peer_ends (moment d).world os [] ≡ w → (xs : List Event) → Arrives 0 xs begun_half (record { end = e; numbers = ns })
               → ArrivesWithin n forged_general peers.numbers counts st.world.fars w.fars xs
@@ -631,11 +650,14 @@ module _ (ends : Ends) (peers : Peers) (old : Air Device) (id : List ℕ) (paylo
             (subst (λ f. ArrivesCut 0 xs f after) half_is (subst (λ k. ArrivesCut k xs half after) number_zero came_all))
 
         -- Turns of the exchanges, up to where they stand so.
-        module _ (new : Air Device) (after : Choosing FarEnd) (standing : Walk Sending (List (List ℕ))) (t : WalkTurns ghosts device_linked peer_ends by_hand (sending payloads []) p.0 one new place ends half after standing) where
-          whole : Going bench_air (forging id payloads) (seen_at device_linked peer_ends (moment old) ends counts) (seen_at device_linked peer_ends (moment new) (slice_set ends place (Some after.end)) after.numbers) (first_notes ++ t.notes)
+        module _ (new : Air Device) (after : Choosing FarEnd) (standing : Walk Sending (List (List ℕ)))
+            (t : WalkTurns ghosts device_linked peer_ends by_hand (sending payloads []) p.0 one new place ends half after standing) where
+          whole : Going bench_air (forging id payloads) (seen_at device_linked peer_ends (moment old) ends counts)
+              (seen_at device_linked peer_ends (moment new) (slice_set ends place (Some after.end)) after.numbers) (first_notes ++ t.notes)
           whole =
               to_bench (forging id payloads) new (first_notes ++ t.notes) after
-              (far_goes_then devices device_linked peer_ends (forging id payloads) (linking (A id) forged_general) from (moment old) (moment one) (moment new) first_notes t.notes place ends at_first half after
+              (far_goes_then devices device_linked peer_ends (forging id payloads) (linking (A id) forged_general) from (moment old) (moment one) (moment new) first_notes t.notes place ends at_first
+              half after
               (λ ns m h d. opens_then id payloads ns m h d) (λ ns. behind_is ns) opening.0 t.going)
 
           leaves_new : TalkLeaves (device_id s.device) place one.listeners new.listeners
@@ -675,7 +697,8 @@ module _ (ends : Ends) (peers : Peers) (old : Air Device) (id : List ℕ) (paylo
           peers_so : (answer : Option Answer) → with_link (range_of after.end) peers ≡ peers_after st J c all answer
           peers_so answer =
               let fars : Ends = (world_after st J c all).fars in
-              range_is new after.end same_new (world_after st J c all) world_new ∙ ap (λ x. with_link_if x st.world.fars fars peers) (sym placed) ∙ ap (λ v. peers_forged v st (A id) fars) (sym opens_true)
+              range_is new after.end same_new (world_after st J c all) world_new ∙ ap (λ x. with_link_if x st.world.fars fars peers) (sym placed)
+              ∙ ap (λ v. peers_forged v st (A id) fars) (sym opens_true)
 
           module _ (setting : setting_of after.end ≡ setting_of half.end) where
             set : setting_of after.end ≡ setting_of far
@@ -689,7 +712,8 @@ module _ (ends : Ends) (peers : Peers) (old : Air Device) (id : List ℕ) (paylo
                 → ((standing ≡ BrokenBy causes.FieldLost) ↔ IsFieldLost answer) → (answer ≡ answers.LinkEnded losses.SixBad → 0 < noise t.going.events)
                 → (noise t.going.events ≡ 0 → bad_receptions t.going.events ≡ 0) → ObeyedBy J before (left_so new after.end) c answer
             answered_so arrived answer told_so over lost noisy calm =
-                let arrives : Arrives 0 all begun_half after = subst (λ xs. Arrives 0 xs begun_half after) (sym parts) (all_arrive t.going.events after (subst (λ xs. Arrives p.0.core.number xs half after) added arrived)) in
+                let arrives : Arrives 0 all begun_half after = subst (λ xs. Arrives 0 xs begun_half after) (sym parts)
+                (all_arrive t.going.events after (subst (λ xs. Arrives p.0.core.number xs half after) added arrived)) in
                 let front : IsPrefix far.service.accepted after.end.service.accepted = grows far forged_general counts all after (inl arrives) in
                 let no_first : 0 < breaks opening.0.events → ⊥ = λ some.
                 (let lost_at : came ≡ Err causes.FieldLost = o.lost.1 (rest_breaks chosen.events o.speaks.events no_break (subst (λ xs. 0 < breaks xs) until some)) in
@@ -711,8 +735,10 @@ module _ (ends : Ends) (peers : Peers) (old : Air Device) (id : List ℕ) (paylo
                     cause = tt;
                     ends = ap told_forging (stand_on t.notes ∙ ap Exchanges t.stands) ∙ told_so;
                     lost = (
-                      (λ l. subst (λ xs. 0 < breaks xs) (sym parts) (more_breaks opening.0.events t.going.events (walk_broken by_hand bench_air (sending payloads []) p.0 _ _ t.notes t.going (t.stands ∙ lost.1 l)))),
-                      (λ some. lost.0 (sym t.stands ∙ walk_lost by_hand bench_air (sending payloads []) p.0 _ _ t.notes t.going (rest_breaks opening.0.events t.going.events no_first (subst (λ xs. 0 < breaks xs) parts some)))),
+                      (λ l. subst (λ xs. 0 < breaks xs) (sym parts) (more_breaks opening.0.events t.going.events
+                          (walk_broken by_hand bench_air (sending payloads []) p.0 _ _ t.notes t.going (t.stands ∙ lost.1 l)))),
+                      (λ some. lost.0 (sym t.stands ∙ walk_lost by_hand bench_air (sending payloads []) p.0 _ _ t.notes t.going
+                          (rest_breaks opening.0.events t.going.events no_first (subst (λ xs. 0 < breaks xs) parts some)))),
                     );
                     noisy = λ six. subst (λ xs. 0 < noise xs) (sym parts) (more_noise opening.0.events t.going.events (noisy six));
                     calm = λ none. all_both IsAnswered o.notes t.notes (heard_whole (first_none none)) (heard (rest_none none));
@@ -744,7 +770,8 @@ module _ (ends : Ends) (peers : Peers) (old : Air Device) (id : List ℕ) (paylo
                 }))
 
           -- Or its end stopped at one request more.
-          module _ (d : Air Device) (stopped : Choosing FarEnd) (setting : setting_of stopped.end ≡ setting_of half.end) (h : HaltsAt ghosts device_linked peer_ends (StopsCounted serving) (walk_due_at standing) new d after stopped)
+          module _ (d : Air Device) (stopped : Choosing FarEnd) (setting : setting_of stopped.end ≡ setting_of half.end)
+              (h : HaltsAt ghosts device_linked peer_ends (StopsCounted serving) (walk_due_at standing) new d after stopped)
               (arrived : ArrivesCut p.0.core.number (since d) half stopped) where
             abbrev sent : List Event
             sent = Request h.sent Pass ∷ []
@@ -763,7 +790,8 @@ module _ (ends : Ends) (peers : Peers) (old : Air Device) (id : List ℕ) (paylo
             talk_d : TalkLeaves (device_id s.device) place one.listeners d.listeners
             talk_d =
                 let own : List ℕ = device_id s.device in
-                let at_request = heard_leaves own h.sent ((walks_plain by_hand (sending payloads []) p.0 t.notes).asked h.sent (ap walk_due_at t.stands ∙ h.asked)) h.payload place new.listeners h.listeners leaves_new.at h.heard in
+                let at_request = heard_leaves own h.sent ((walks_plain by_hand (sending payloads []) p.0 t.notes).asked h.sent (ap walk_due_at t.stands ∙ h.asked)) h.payload place new.listeners
+                h.listeners leaves_new.at h.heard in
                 subst (TalkLeaves own place one.listeners) (sym (ap (λ (a : Air Device). a.listeners) h.left)) (leaves_both own place one.listeners new.listeners h.listeners leaves_new at_request)
 
             same_d : map kept d.listeners ≡ map kept old.listeners
@@ -775,7 +803,8 @@ module _ (ends : Ends) (peers : Peers) (old : Air Device) (id : List ℕ) (paylo
             opened_d : opens_link id payloads d.trace ≡ true
             opened_d =
                 ap (opens_link id payloads) trace_d
-                ∙ ap (λ ns. linked_then payloads (selecting (A id) ns)) (receptions-append all sent refl ∙ ap (λ ks. ks ++ receptions sent) whole.known ∙ append_assoc first_notes t.notes (receptions sent))
+                ∙ ap (λ ns. linked_then payloads (selecting (A id) ns)) (receptions-append all sent refl ∙ ap (λ ks. ks ++ receptions sent) whole.known
+                ∙ append_assoc first_notes t.notes (receptions sent))
                 ∙ linked_any (t.notes ++ receptions sent)
 
             halted : ForgeHalts J st c d.trace (state_at (left_so d stopped.end))
@@ -823,33 +852,46 @@ module _ (ends : Ends) (peers : Peers) (old : Air Device) (id : List ℕ) (paylo
             let same : k.events ≡ xs = sym (drop-append_seam one.trace k.events) ∙ ap (drop (length one.trace)) (sym k.trace ∙ trace_is) ∙ drop-append_seam one.trace xs in
             subst (λ ys. bad_receptions ys ≡ 0) same (k.calm (subst (λ ys. noise ys ≡ 0) (sym same) none))
 
-        pub walked_forge : (new : Air Device) (j : InitState) (after : Choosing FarEnd) (replies : List (List ℕ)) → IsWalked ghosts device_end by_hand (sending payloads []) one p.0 half new j after replies
+        pub walked_forge : (new : Air Device) (j : InitState) (after : Choosing FarEnd) (replies : List (List ℕ))
+            → IsWalked ghosts device_end by_hand (sending payloads []) one p.0 half new j after replies
             → ObeyedBy J before (left_so new after.end) c (answers.Replies replies)
         walked_forge new j after replies m =
-            let t : WalkTurns ghosts device_linked peer_ends by_hand (sending payloads []) p.0 one new place ends half after (Comes replies j) = m.turns device_linked devices_link place stands_one ends in
+            let t : WalkTurns ghosts device_linked peer_ends by_hand (sending payloads []) p.0 one new place ends half after (Comes replies j) =
+            m.turns device_linked devices_link place stands_one ends in
             let k : IsCalm one new = subst (IsCalm one) m.carried.left.0 (chain_calm m.carried.swaps (first_seen one p.0) m.carried.at m.carried.chain m.carried.left.2) in
-            answered_so new after (Comes replies j) t m.carried.setting m.carried.arrives (answers.Replies replies) refl refl
-            ((λ e. absurd cc), (λ e. absurd (elim e [ inl dark ↦ (let clash : answers.Replies replies ≡ answers.FieldLost = dark in cc) | inr ended ↦ (let clash : answers.Replies replies ≡ answers.LinkEnded losses.FieldLost = ended in cc) ])))
+            answered_so new after (Comes replies j) t m.carried.setting m.carried.arrives (answers.Replies replies) refl refl (
+              (λ e. absurd cc),
+              (λ e. absurd
+                  (elim e [
+                    | inl dark ↦ (let clash : answers.Replies replies ≡ answers.FieldLost = dark in cc)
+                    | inr ended ↦
+                        (let clash : answers.Replies replies ≡ answers.LinkEnded losses.FieldLost = ended in cc)
+                  ])),
+            )
             (λ six. absurd (let clash : answers.Replies replies ≡ answers.LinkEnded losses.SixBad = six in cc))
             (calm_of new k t.going.events (more_trace new after (Comes replies j) t))
 
         -- or its link ended
-        pub lost_forge : (new : Air Device) (j : InitState) (after : Choosing FarEnd) (why : EndCause) (answer : Answer) → IsWalkEnded ghosts device_end by_hand (sending payloads []) one p.0 half new j after why → told_loss why ≡ Some answer
+        pub lost_forge : (new : Air Device) (j : InitState) (after : Choosing FarEnd) (why : EndCause) (answer : Answer)
+            → IsWalkEnded ghosts device_end by_hand (sending payloads []) one p.0 half new j after why → told_loss why ≡ Some answer
             → ObeyedBy J before (left_so new after.end) c answer
         lost_forge new j after why answer m told_so =
-            let t : WalkTurns ghosts device_linked peer_ends by_hand (sending payloads []) p.0 one new place ends half after (BrokenBy why) = m.turns device_linked devices_link place stands_one ends in
+            let t : WalkTurns ghosts device_linked peer_ends by_hand (sending payloads []) p.0 one new place ends half after (BrokenBy why) =
+            m.turns device_linked devices_link place stands_one ends in
             let noisy : why ≡ causes.SixBad → 0 < noise t.going.events = λ six. subst (λ xs. 0 < noise xs) (added new after (BrokenBy why) t) (m.noisy six) in
             let broken : why ≡ causes.FieldLost → 0 < breaks t.going.events = λ lost. walk_broken by_hand bench_air (sending payloads []) p.0 _ _ t.notes t.going (t.stands ∙ ap BrokenBy lost) in
             let lost = lost_is why answer told_so in
             answered_so new after (BrokenBy why) t m.carried.setting m.carried.arrives answer told_so refl
-            ((λ e. lost.0 (let same : ◌≡◌ {A = Walk Sending (List (List ℕ))} (BrokenBy why) (BrokenBy causes.FieldLost) = e in cc)), (λ e. ap BrokenBy (lost.1 e))) (λ six. noisy (six_is why answer told_so six))
+            ((λ e. lost.0 (let same : ◌≡◌ {A = Walk Sending (List (List ℕ))} (BrokenBy why) (BrokenBy causes.FieldLost) = e in cc)), (λ e. ap BrokenBy (lost.1 e)))
+            (λ six. noisy (six_is why answer told_so six))
             (λ none. absurd (never_quiet t.going.events why answer told_so noisy broken none))
 
         -- or memory was wanting
         pub short_forge : (new : Air Device) (j : InitState) (after : Choosing FarEnd) → IsWalkShort ghosts device_end by_hand (sending payloads []) one p.0 half new j after
             → ForgeStops J st c new.trace (state_at (left_so new after.end))
         short_forge new j after m =
-            let f : WalkFront ghosts device_linked peer_ends (StopsCounted serving) by_hand (sending payloads []) p.0 one new place ends half after = m.front device_linked devices_link place stands_one ends in
+            let f : WalkFront ghosts device_linked peer_ends (StopsCounted serving) by_hand (sending payloads []) p.0 one new place ends half after =
+            m.front device_linked devices_link place stands_one ends in
             let T : Air Device → Choosing FarEnd → Type 0 = λ a e. WalkTurns ghosts device_linked peer_ends by_hand (sending payloads []) p.0 one a place ends half e f.standing in
             elim f.left [
               | inl (field, stays_so) ↦ inl (short_so new after f.standing (subst (T new) (sym stays_so) (subst (λ a. T a f.half) (sym field) f.turns)) m.setting m.arrives)

@@ -112,13 +112,15 @@ lost_is causes.Protocol answer told = absurd cc
 lost_is causes.Memory answer told = absurd cc
 
 pub six_is : (why : EndCause) (answer : Answer) → told_loss why ≡ Some answer → answer ≡ answers.LinkEnded losses.SixBad → why ≡ causes.SixBad
-six_is causes.FieldLost answer told q = absurd (let same : answers.LinkEnded losses.FieldLost ≡ answer = cc in let clash : answers.LinkEnded losses.FieldLost ≡ answers.LinkEnded losses.SixBad = same ∙ q in cc)
+six_is causes.FieldLost answer told q = absurd (let same : answers.LinkEnded losses.FieldLost ≡ answer = cc in
+    let clash : answers.LinkEnded losses.FieldLost ≡ answers.LinkEnded losses.SixBad = same ∙ q in cc)
 six_is causes.SixBad answer told q = refl
 six_is causes.Protocol answer told q = absurd cc
 six_is causes.Memory answer told q = absurd cc
 
 -- a link that ended had noise
-pub never_quiet : (es : List Event) (why : EndCause) (answer : Answer) → told_loss why ≡ Some answer → (why ≡ causes.SixBad → 0 < noise es) → (why ≡ causes.FieldLost → 0 < breaks es) → noise es ≡ 0 → ⊥
+pub never_quiet : (es : List Event) (why : EndCause) (answer : Answer) → told_loss why ≡ Some answer → (why ≡ causes.SixBad → 0 < noise es) → (why ≡ causes.FieldLost → 0 < breaks es) → noise es ≡ 0
+    → ⊥
 never_quiet es causes.FieldLost answer told noisy broken none = let some : 0 < breaks es = broken refl in let lit : breaks es ≡ 0 = no_breaks es none in omega (arith, some, lit)
 never_quiet es causes.SixBad answer told noisy broken none = let some : 0 < noise es = noisy refl in omega (arith, some, none)
 never_quiet es causes.Protocol answer told noisy broken none = cc

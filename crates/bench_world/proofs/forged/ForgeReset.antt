@@ -56,7 +56,15 @@ module _ (s : State) (joins : Joins) (id : List ℕ) (payloads : List (List ℕ)
 
 pub forge_resets : (id : List ℕ) (payloads : List (List ℕ)) → IsReset (Forge id payloads)
 forge_resets id payloads = record {
-  front = λ s t g es told f. record { accepted = f.accepted; asks = f.asks; takes = f.takes; turns = f.turns; fates = f.fates; each = f.each; after = f.after ∙ same_after s g.joins id payloads es told };
+  front = λ s t g es told f. record {
+    accepted = f.accepted;
+    asks = f.asks;
+    takes = f.takes;
+    turns = f.turns;
+    fates = f.fates;
+    each = f.each;
+    after = f.after ∙ same_after s g.joins id payloads es told;
+  };
   next = λ s g ns. refl;
   law = λ s g es answer l. record { tells = l.tells; leaves = leaves_too s g.joins id payloads es (opens_link id payloads es) l.leaves };
   stores = λ s joins es l. cut_too s joins id payloads es (opens_link id payloads es) l;
@@ -101,6 +109,7 @@ stops_ended joins id payloads old settled now (inr h) =
     (subst (λ x. ForgeHalts joins x (Forge id payloads) now.air.trace (state_at now)) (unlinked_state old settled.places) h))
 
 -- so it was cut off as any command is
-pub cut_by : (joins : Joins) (s : State) (id : List ℕ) (payloads : List (List ℕ)) (cut : List Event) (t : State) → ForgeStops joins s (Forge id payloads) cut t → CutOff joins s (Forge id payloads) cut t
+pub cut_by : (joins : Joins) (s : State) (id : List ℕ) (payloads : List (List ℕ)) (cut : List Event) (t : State) → ForgeStops joins s (Forge id payloads) cut t
+    → CutOff joins s (Forge id payloads) cut t
 cut_by joins s id payloads cut t (inl f) = inr (inl f)
 cut_by joins s id payloads cut t (inr h) = inr (inr (inr (inl h)))

@@ -34,7 +34,8 @@ module _ (old mid : Air Device) (far half : Choosing FarEnd) (r : Result (InitSt
       let o : Opened mid place d i told.items = subst (OpeningEnds mid place d) (ap by_cause is) (asks place d stands peer).ends in
       record { in_step = o.here.step; going = ap (λ (x : InitState). over_at x.phase true) o.initiator }
 
-  pub sends_ok : (i : InitState) (told : ArrayVec ℕ) → r ≡ Ok (i, told) → (payloads : List (List ℕ)) (new : Air Device) (j : InitState) (after : Choosing FarEnd) (came : Result (List (List ℕ)) EndCause)
+  pub sends_ok : (i : InitState) (told : ArrayVec ℕ) → r ≡ Ok (i, told) → (payloads : List (List ℕ)) (new : Air Device) (j : InitState) (after : Choosing FarEnd)
+      (came : Result (List (List ℕ)) EndCause)
       → IfOk came (λ replies. IsWalked ghosts device_end by_hand (sending payloads []) mid i half new j after replies)
       → IfErr came (λ why. IsWalkCut ghosts device_end by_hand (sending payloads []) mid i half new j after why) → SendsAll old far payloads new after (Ok came)
   sends_ok i told is payloads new j after came ok err = record {
@@ -65,7 +66,8 @@ set_twice [] n x y = refl
 set_twice (o ∷ os) zero x y = refl
 set_twice (o ∷ os) (suc n) x y = ap (λ xs. o ∷ xs) (set_twice os n x y)
 
-module _ (m : Machines) (air : Air Device) (place : ℕ) (half : Option FarEnd) (after : FarEnd) (peer start behind : ℕ) (links : List LinkRange) (behind_is : behind ≡ length after.service.accepted) where
+module _ (m : Machines) (air : Air Device) (place : ℕ) (half : Option FarEnd) (after : FarEnd) (peer start behind : ℕ) (links : List LinkRange)
+    (behind_is : behind ≡ length after.service.accepted) where
   abbrev made : List (Option FarEnd) → List LinkRange → Machines
   made os ls = record { air = air; ends = os; peers = record { numbers = m.peers.numbers; gone = m.peers.gone; links = ls }; link = m.link }
 
@@ -73,12 +75,15 @@ module _ (m : Machines) (air : Air Device) (place : ℕ) (half : Option FarEnd) 
   more v k = if v then m.peers.links ++ record { peer = peer; start = start; end = Some k } ∷ [] else m.peers.links
 
   -- the machines behind payloads that were sent, with one link more where one was opened
-  pub left_is : {X : Type 0} (sent : Result X EndCause) (opened : Bool) → opened ≡ is_ok sent → links ≡ more opened behind → made (slice_set (slice_set m.ends place half) place (Some after)) links ≡ left_by sent m air place after peer start
+  pub left_is : {X : Type 0} (sent : Result X EndCause) (opened : Bool) → opened ≡ is_ok sent → links ≡ more opened behind
+      → made (slice_set (slice_set m.ends place half) place (Some after)) links ≡ left_by sent m air place after peer start
   left_is (Ok came) opened is added =
       ap (λ os. made os links) (set_twice m.ends place half (Some after)) ∙ ap (made (slice_set m.ends place (Some after))) (added ∙ ap (λ v. more v behind) is ∙ ap (more true) behind_is)
   left_is (Err why) opened is added =
       ap (λ os. made os links) (set_twice m.ends place half (Some after)) ∙ ap (made (slice_set m.ends place (Some after))) (added ∙ ap (λ v. more v behind) is)
 
-pub sends_to : (m now : Machines) (place : ℕ) (counts : List ℕ) (payloads : List (List ℕ)) (peer : ℕ) (far : FarEnd) (air : Air Device) (after : Choosing FarEnd) (sent : Sent) (result : Result Answer ObeyFault)
-    → SendsAll m.air (record { end = far; numbers = counts }) payloads air after sent → result ≡ told_sent sent → now ≡ left_by sent m air place after.end peer (length far.service.accepted) → SendsTo m now place counts payloads peer far result
+pub sends_to : (m now : Machines) (place : ℕ) (counts : List ℕ) (payloads : List (List ℕ)) (peer : ℕ) (far : FarEnd) (air : Air Device) (after : Choosing FarEnd) (sent : Sent)
+    (result : Result Answer ObeyFault)
+    → SendsAll m.air (record { end = far; numbers = counts }) payloads air after sent → result ≡ told_sent sent → now ≡ left_by sent m air place after.end peer (length far.service.accepted)
+    → SendsTo m now place counts payloads peer far result
 sends_to m now place counts payloads peer far air after sent result sends told left = inr (record { air = air; after = after; sent = sent; sends = sends; told = told; left = left })

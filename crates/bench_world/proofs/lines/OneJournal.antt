@@ -6,7 +6,8 @@ use Rattle.nfc_base.specs.declared.event.Event.{Event}
 use Rattle.air_core.specs.Conversation.{Over, receptions}
 use Rattle.bench_script.specs.declared.command.Command.{Command}
 use Rattle.bench_script.specs.declared.command.Command.TheVariants as commands
-use Rattle.bench_script.specs.declared.command.Command.TheVariants.{Skip, Fates, PlaceT2, PlaceT3, PlaceT4, PlaceT5, PlacePeer, Lock, Busy, Offer, Remove, Dump, Inbox, Find, Crowd, Poll3, Read, Read3, Write, Write3, Link, Forge, Raw, Put, Get, Lookup, OnPut, OnGet, Unlink}
+use Rattle.bench_script.specs.declared.command.Command.TheVariants.{Skip, Fates, PlaceT2, PlaceT3, PlaceT4, PlaceT5, PlacePeer, Lock, Busy, Offer, Remove, Dump, Inbox, Find, Crowd, Poll3, Read, Read3}
+use Rattle.bench_script.specs.declared.command.Command.TheVariants.{Write, Write3, Link, Forge, Raw, Put, Get, Lookup, OnPut, OnGet, Unlink}
 use Rattle.bench_devices.specs.declared.device.Device.{Device}
 use Rattle.bench_world.specs.Alike.{IsToldSame}
 use Rattle.bench_world.specs.Asked.{asked_on_link, slot_messages}
@@ -142,7 +143,8 @@ one_answer s (commands.Puts puts) asked j k events a b same p q = one_called (Do
 one_answer s Unlink asked j k events a b same p q = one_called Closes s Unlink asked j k events a b refl same p q
 
 -- From a state a command is obeyed in one way by the same numbers.
-module _ (s : State) (c : Command) (g h : Given) (es fs : List Event) (a b : Answer) (t u : State) (p : FrontOf s g c es (Some a) t) (q : FrontOf s h c fs (Some b) u) (done : due s g c (receptions es) ≡ Over) (over : due s h c (receptions fs) ≡ Over)
+module _ (s : State) (c : Command) (g h : Given) (es fs : List Event) (a b : Answer) (t u : State) (p : FrontOf s g c es (Some a) t) (q : FrontOf s h c fs (Some b) u)
+    (done : due s g c (receptions es) ≡ Over) (over : due s h c (receptions fs) ≡ Over)
     (joins : h.joins ≡ g.joins) where
   same_given : h ≡ g
   same_given =

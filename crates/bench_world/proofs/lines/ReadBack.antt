@@ -20,7 +20,9 @@ use Rattle.bench_script.specs.Script.{tail_text}
 use Rattle.bench_script.specs.Canonical.{hex_text, frame_text}
 use Rattle.bench_script.proofs.Frames.{first, cut, tail_begins, tail_tells}
 use Rattle.bench_world.specs.declared.entry.Answer.{Answer as Said}
-use Rattle.bench_world.specs.declared.entry.Answer.TheVariants.{Done, Store, Found, Crowd, T3None, T3One, T3Crowd, Message, NotNdef, Version, NoRead, Sectors, BadSize, NoMessageTlv, BadTlv, Unfinished, Disturbed, FieldLost, NotFound, SixBad, Written, Refused, ReadOnly, TooLong, ShortMlc, WrongKind, Inbox, Linked, Success, Reject, Value, NoValue, Excess, NotImplemented, Sap, LinkEnded, Replies, Heard, Puts, Unlinked, NoLink}
+use Rattle.bench_world.specs.declared.entry.Answer.TheVariants.{Done, Store, Found, Crowd, T3None, T3One, T3Crowd, Message, NotNdef, Version, NoRead, Sectors, BadSize, NoMessageTlv, BadTlv}
+use Rattle.bench_world.specs.declared.entry.Answer.TheVariants.{Unfinished, Disturbed, FieldLost, NotFound, SixBad, Written, Refused, ReadOnly, TooLong, ShortMlc, WrongKind, Inbox, Linked, Success}
+use Rattle.bench_world.specs.declared.entry.Answer.TheVariants.{Reject, Value, NoValue, Excess, NotImplemented, Sap, LinkEnded, Replies, Heard, Puts, Unlinked, NoLink}
 use Rattle.bench_world.specs.Report.{fate_text, sent_text, event_text, answer_text, line_text}
 use Rattle.bench_world.specs.ReadBack.{IsOf, LinesTellEvents, AnswersApart}
 

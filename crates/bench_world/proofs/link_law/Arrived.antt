@@ -28,9 +28,11 @@ pub same_accepted : (v : Bool) (end : FarEnd) → OfEnd (λ e. e.service.accepte
 same_accepted true end = refl
 same_accepted false end = refl
 
-module _ (air : Air Device) (ends : Ends) (peers : Peers) (l : OpenLink) (settled : IsSettled (under ends peers (Some l) air)) (next : List Note → Next) (plain : (ns : List Note) → IsPlainNext (next ns)) (b : Air Device)
+module _ (air : Air Device) (ends : Ends) (peers : Peers) (l : OpenLink) (settled : IsSettled (under ends peers (Some l) air)) (next : List Note → Next)
+    (plain : (ns : List Note) → IsPlainNext (next ns)) (b : Air Device)
     (numbers : List ℕ) (after : Choosing FarEnd) (notes : List Note)
-    (g : FarGoing devices device_linked peer_ends next (moment air) (moment b) notes (opened air ends peers l settled).place ends (record { end = (opened air ends peers l settled).end; numbers = numbers }) after) where
+    (g : FarGoing devices device_linked peer_ends next (moment air) (moment b) notes (opened air ends peers l settled).place ends
+    (record { end = (opened air ends peers l settled).end; numbers = numbers }) after) where
   abbrev first : ℕ
   first = l.initiator.core.number
 
@@ -85,7 +87,8 @@ module _ (air : Air Device) (ends : Ends) (peers : Peers) (l : OpenLink) (settle
         (subst (OfEnd (λ e. e.service.accepted ≡ after.end.service.accepted)) (sym shown_then) (same_accepted (linked_at place b.listeners) after.end));
   }
 
-  pub came_at : (w : WholeWorld) → seen device_linked peer_ends (world b) os [] ≡ w → (link : Option OpenLink) → Arrives first (drop (length air.trace) b.trace) (record { end = end; numbers = numbers }) after → GoesOn link
+  pub came_at : (w : WholeWorld) → seen device_linked peer_ends (world b) os [] ≡ w → (link : Option OpenLink)
+      → Arrives first (drop (length air.trace) b.trace) (record { end = end; numbers = numbers }) after → GoesOn link
       → ArrivesAt l peers.numbers numbers (state_at (bench air ends peers l settled)).world.fars w.fars events link
   came_at w is link arrives h = record {
     old = end;

@@ -9,7 +9,8 @@ use Rattle.air_core.specs.Conversation.{queue_after}
 use Rattle.snep_core.specs.Talk.{client_sap, sap_of_slot}
 use Rattle.bench_script.specs.declared.command.Command.{Command}
 use Rattle.bench_script.specs.declared.command.Command.TheVariants as commands
-use Rattle.bench_script.specs.declared.command.Command.TheVariants.{Skip, Fates, PlaceT2, PlaceT3, PlaceT4, PlaceT5, PlacePeer, Lock, Busy, Offer, Remove, Dump, Inbox, Find, Crowd, Poll3, Read, Read3, Write, Write3, Link, Forge, Raw, Put, Get, Lookup, OnPut, OnGet, Unlink}
+use Rattle.bench_script.specs.declared.command.Command.TheVariants.{Skip, Fates, PlaceT2, PlaceT3, PlaceT4, PlaceT5, PlacePeer, Lock, Busy, Offer, Remove, Dump, Inbox, Find, Crowd, Poll3, Read, Read3}
+use Rattle.bench_script.specs.declared.command.Command.TheVariants.{Write, Write3, Link, Forge, Raw, Put, Get, Lookup, OnPut, OnGet, Unlink}
 use Rattle.bench_script.specs.declared.command.DeviceId.{DeviceId}
 use Rattle.bench_script.specs.DeviceIds.{bytes_of}
 use Rattle.bench_script.specs.Messages.{message_of}
@@ -79,7 +80,8 @@ module _ (w : WholeWorld) (q : List Fate) (p : Peers) (ys : List Story) (g : Giv
     reset_so now same = subst (λ ks. Covered (view_by (ended o w.fars p) ks)) (sym (same_held now w same)) ended_so
 
   -- a tag is placed
-  tag_so : (o : Option OpenLink) (stand : Stand (from o) ys) → Covers (from o) → Covered (view_by (record { numbers = p.numbers ++ None ∷ []; gone = p.gone; links = p.links }) (map held (w.fars ++ None ∷ [])))
+  tag_so : (o : Option OpenLink) (stand : Stand (from o) ys) → Covers (from o)
+      → Covered (view_by (record { numbers = p.numbers ++ None ∷ []; gone = p.gone; links = p.links }) (map held (w.fars ++ None ∷ [])))
   tag_so o stand all =
       subst (λ ks. Covered (record { numbers = p.numbers ++ None ∷ []; placed = next_number p; links = p.links; held = ks })) (sym (map-append held w.fars (None ∷ [])))
       (λ n. subst (IfHeld (λ k. (i : ℕ) → i < length k.accepted → came_on_link p.links n i ≡ true)) (sym (same_tag (from o) ys stand n)) (all n))

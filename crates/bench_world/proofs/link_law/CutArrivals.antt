@@ -1,5 +1,6 @@
 -- What arrived at the peer of a link in a command that want of memory cut off, and what was accepted by that.
-use Rattle.std.proofs.Common.{◌≡◌, ◌⊎◌, ℕ, ◌+◌, ◌<◌, List, [], ◌∷◌, ◌++◌, drop, length, Bool, true, false, if◌then◌else◌, Option, Some, None, inl, inr, refl, sym, ◌∙◌, ap, subst, append_assoc, append-nil}
+use Rattle.std.proofs.Common.{◌≡◌, ◌⊎◌, ℕ, ◌+◌, ◌<◌, List, [], ◌∷◌, ◌++◌, drop, length, Bool, true, false, if◌then◌else◌, Option, Some, None, inl, inr, refl, sym, ◌∙◌, ap, subst, append_assoc}
+use Rattle.std.proofs.Common.{append-nil}
 use Rattle.std.specs.List.{AllByRecursion}
 use Rattle.std.proofs.Math.Seq.{drop-append_seam}
 use Rattle.nfc_base.specs.Choosing.{Choosing, first_number, later_numbers}
@@ -43,7 +44,8 @@ use Rattle.bench_world.specs.Links.{OpenLink, end_numbered}
 use Rattle.bench_world.specs.Peers.{Peers, placed_under}
 use Rattle.bench_world.specs.Stories.{Opener, ByForge, ByLink, ByRaw, Story, Stretch, Beginning, NothingBegins, BeginsAndEnds, beginning, begins_in, begun_by, open_goes_on}
 use Rattle.bench_world.proofs.link_law.PayloadsKept.{KeptIn, unless_numbers}
-use Rattle.bench_world.proofs.link_law.PayloadsOn.{KeepsPayloads, if_opened, Kept, OnLink, UpTo, above_is, all_and_last, all_bytes, all_end, all_payloads, all_with, came_is, end_then, more_payloads, up_to}
+use Rattle.bench_world.proofs.link_law.PayloadsOn.{KeepsPayloads, if_opened, Kept, OnLink, UpTo, above_is, all_and_last, all_bytes, all_end, all_payloads, all_with, came_is, end_then, more_payloads}
+use Rattle.bench_world.proofs.link_law.PayloadsOn.{up_to}
 use Rattle.bench_world.proofs.link_law.PayloadsWithin.{all_over, begun_one, from_first, new_whole, now_is, raw_within}
 use Rattle.bench_world.proofs.link_law.PutsTold.{accepted_more}
 use Rattle.bench_world.proofs.link_law.SameStories.{last_equal}
@@ -61,7 +63,8 @@ same_rest : (a b c : List (List ℕ)) → a ++ b ≡ a ++ c → b ≡ c
 same_rest a b c e = sym (drop-append_seam a b) ∙ ap (drop (length a)) e ∙ drop-append_seam a c
 
 -- Of each client's SAP: where what was accepted is the first of what the payloads put, so is what was gained.
-puts_at_least : (c limit : ℕ) (us : List (List (List ℕ))) (had gained whole : List Accepted) → IsPrefix (had ++ gained) whole → (all : List (List ℕ)) → accepted_from c whole ≡ accepted_from c had ++ all
+puts_at_least : (c limit : ℕ) (us : List (List (List ℕ))) (had gained whole : List Accepted) → IsPrefix (had ++ gained) whole → (all : List (List ℕ))
+    → accepted_from c whole ≡ accepted_from c had ++ all
     → AllPut limit us all → PutsAtLeast limit us (accepted_from c gained)
 puts_at_least c limit us had gained whole (rest, e) all accepted put =
     let from : List Accepted → List (List ℕ) = accepted_from c in
@@ -279,7 +282,8 @@ module _ (s t : State) (joins : Joins) (c : Command) (cut : List Event) (ys : Li
   within_front none begun = all_over s t x ys KeepsFront none (all_with s.link s ys h KeepsFront keeps_front) begun
 
   -- the open link goes on
-  linked_front : IsOnLink c → (l : OpenLink) → (changed s c).link ≡ Some l → s.link ≡ Some l → t.peers.numbers ≡ s.peers.numbers → ArrivesCutAt l s.peers.numbers joins.far s.world.fars t.world.fars cut → CutBy
+  linked_front : IsOnLink c → (l : OpenLink) → (changed s c).link ≡ Some l → s.link ≡ Some l → t.peers.numbers ≡ s.peers.numbers
+      → ArrivesCutAt l s.peers.numbers joins.far s.world.fars t.world.fars cut → CutBy
   linked_front talks l open_ was numbers came =
       let k : Kept (Some l) s ys = subst (λ o. Kept o s ys) was h in
       let B : Beginning → Type 0 = λ b. AllByRecursion KeepsFront (open_goes_on (changed s c).link (goes_on s x t) ys ++ begun_by b (goes_on s x t) s t) in
@@ -289,7 +293,8 @@ module _ (s t : State) (joins : Joins) (c : Command) (cut : List Event) (ys : Li
       (if_opened (IsFrontOfPayloads (goes_on s x t k.going.last)) k.going.last.opener (cut_front_of l s t k.going.last k.going.on x numbers came)))))
 
 -- Frames of a script's own were sent, over a link of their own or not.
-raw_front : (s t : State) (joins : Joins) (id : DeviceId) (frames : List Signal) (cut : List Event) (ys : List Story) (h : KeptIn s ys) (v : Bool) → raw_opens id frames cut ≡ v → CutBy s t joins (Raw id frames) cut ys h
+raw_front : (s t : State) (joins : Joins) (id : DeviceId) (frames : List Signal) (cut : List Event) (ys : List Story) (h : KeptIn s ys) (v : Bool) → raw_opens id frames cut ≡ v
+    → CutBy s t joins (Raw id frames) cut ys h
 raw_front s t joins id frames cut ys h true opened =
     let c : Command = Raw id frames in
     let x : Stretch = cut_stretch c joins cut in

@@ -15,7 +15,8 @@ use Rattle.snep_core.specs.Talk.{client_sap, sap_of_slot}
 use Rattle.bench_script.specs.Messages.{message_of}
 use Rattle.bench_world.specs.Asked.{IsOnLink, asked_on_link, slot_messages}
 use Rattle.bench_world.specs.Calls.{OfEnd, PeerMayAdd}
-use Rattle.bench_world.specs.Legal.{State, Given, Joins, Accepts, CutFront, world_at_start, CutLeft, CutShort, EachLegal, CutStores, ForgeCutLeaves, FrontOf, peer_end_of, first_state, state_after, world_after}
+use Rattle.bench_world.specs.Legal.{State, Given, Joins, Accepts, CutFront, world_at_start, CutLeft, CutShort, EachLegal, CutStores, ForgeCutLeaves, FrontOf, peer_end_of, first_state, state_after}
+use Rattle.bench_world.specs.Legal.{world_after}
 use Rattle.bench_world.specs.Halting.{ForgeHalts, HaltAdded, HaltLeaves, Halts, PeerHalts, RawHalts}
 use Rattle.bench_world.specs.Rawing.{raw_opens}
 use Rattle.bench_devices.specs.AnyFrame.{peer_place, peers_in}
@@ -34,7 +35,8 @@ use Rattle.bench_world.specs.Stories.{Story, stories_of}
 use Rattle.bench_world.proofs.link_law.CutArrivals.{cut_arrived}
 use Rattle.bench_world.proofs.link_law.PayloadsKept.{kept_along}
 use Rattle.bench_world.proofs.devices.AtNumbers.{held, more_held, same_held, with_held}
-use Rattle.bench_world.proofs.link_law.LinkLaw.{all_keep, along, as_many_sent, as_many_talked, first_stand, forge_sent, forge_unsent, forged_stands, reset, step, talk_none, talk_so, talked, raw_after, same_many}
+use Rattle.bench_world.proofs.link_law.LinkLaw.{all_keep, along, as_many_sent, as_many_talked, first_stand, forge_sent, forge_unsent, forged_stands, reset, step, talk_none, talk_so, talked, raw_after}
+use Rattle.bench_world.proofs.link_law.LinkLaw.{same_many}
 use Rattle.bench_world.proofs.devices.PeersNumbered.{HavePlaces, places_stay}
 use Rattle.bench_world.proofs.link_law.SameStories.{KeepsNumbers, begun_within, ended_in, same_behind, same_from}
 use Rattle.bench_world.proofs.link_law.StoriesHere.{Stand, view_of}
@@ -82,11 +84,13 @@ module _ (w : WholeWorld) (q : List Fate) (p : Peers) (ys : List Story) (g : Giv
   front_by o Poll3 es t stand front stores =
       after_front o Poll3 es t front (reset w q p ys o stand g None Poll3 es refl refl refl refl refl (same_held (world_after (from o) g.joins Poll3 es) w (ap (λ (z : Stable). z.ends) stores)))
   front_by o (Read id) es t stand front stores =
-      after_front o (Read id) es t front (reset w q p ys o stand g None (Read id) es refl refl refl refl refl (same_held (world_after (from o) g.joins (Read id) es) w (ap (λ (z : Stable). z.ends) stores)))
+      after_front o (Read id) es t front (reset w q p ys o stand g None (Read id) es refl refl refl refl refl
+      (same_held (world_after (from o) g.joins (Read id) es) w (ap (λ (z : Stable). z.ends) stores)))
   front_by o (Write id m) es t stand front stores =
       after_front o (Write id m) es t front (reset w q p ys o stand g None (Write id m) es refl refl refl refl refl (same_held (world_after (from o) g.joins (Write id m) es) w stores.ends))
   front_by o (Read3 id) es t stand front stores =
-      after_front o (Read3 id) es t front (reset w q p ys o stand g None (Read3 id) es refl refl refl refl refl (same_held (world_after (from o) g.joins (Read3 id) es) w (ap (λ (z : Stable). z.ends) stores)))
+      after_front o (Read3 id) es t front (reset w q p ys o stand g None (Read3 id) es refl refl refl refl refl
+      (same_held (world_after (from o) g.joins (Read3 id) es) w (ap (λ (z : Stable). z.ends) stores)))
   front_by o (Write3 id m) es t stand front stores =
       after_front o (Write3 id m) es t front (reset w q p ys o stand g None (Write3 id m) es refl refl refl refl refl (same_held (world_after (from o) g.joins (Write3 id m) es) w stores.ends))
   front_by o (Link id miu window) es t stand front stores =
@@ -108,7 +112,8 @@ module _ (w : WholeWorld) (q : List Fate) (p : Peers) (ys : List Story) (g : Giv
   front_by o c es t stand front stores = absurd stores
 
 -- The peer's end stopped.
-module _ (w : WholeWorld) (q : List Fate) (p : Peers) (ys : List Story) (g : Given) (l : OpenLink) (stand : Stand (record { world = w; queue = q; peers = p; link = Some l }) ys) (es : List Event) (t : State) where
+module _ (w : WholeWorld) (q : List Fate) (p : Peers) (ys : List Story) (g : Given) (l : OpenLink) (stand : Stand (record { world = w; queue = q; peers = p; link = Some l }) ys) (es : List Event)
+    (t : State) where
   abbrev on : State
   on = record { world = w; queue = q; peers = p; link = Some l }
 
@@ -133,7 +138,8 @@ module _ (w : WholeWorld) (q : List Fate) (p : Peers) (ys : List Story) (g : Giv
           let accepted : map held t.world.fars ≡ with_held h.more l.peer p.numbers (map held w.fars) = more_held t.world w h.more l.peer p.numbers h.ends in
           let many : length t.world.fars ≡ length w.fars = as_many_talked w q p ys l stand g None c asked e may es h.more adds t.world accepted in
           let places : HavePlaces t.world.field.listeners p.numbers t.world.fars =
-          places_stay w.field.listeners t.world.field.listeners p.numbers p.numbers w.fars t.world.fars (kept_all_stay w.field.listeners t.world.field.listeners h.talk.2.same) many refl stand.places in
+          places_stay w.field.listeners t.world.field.listeners p.numbers p.numbers w.fars t.world.fars (kept_all_stay w.field.listeners t.world.field.listeners h.talk.2.same) many refl
+          stand.places in
           left_is c h (talk_so w q p ys l stand g None c asked e may es h.more adds t.world t.queue None places accepted (λ k e. absurd cc))
 
 module _ (s t : State) (joins : Joins) (c : Command) (cut : List Event) (ys : List Story) (stand : Stand s ys) where
@@ -181,9 +187,11 @@ module _ (s t : State) (joins : Joins) (c : Command) (cut : List Event) (ys : Li
       let to_mid_grows : GrowsAt (peer_place ds) (map held s.world.fars) (map held h.mid.world.fars) =
       subst (λ (x : WholeWorld). GrowsAt (peer_place ds) (map held s.world.fars) (map held x.fars)) (sym mid_is) (all_grow h.before (peer_place ds) first stand.places.fars few refl) in
       let mid_many : length h.mid.world.fars ≡ length s.world.fars =
-      ap (λ (x : WholeWorld). length x.fars) mid_is ∙ all_long h.before first stand.places.fars ∙ same_many ds (world_after s h.given.joins d h.before).field.listeners first_stay ∙ sym stand.places.fars in
+      ap (λ (x : WholeWorld). length x.fars) mid_is ∙ all_long h.before first stand.places.fars ∙ same_many ds (world_after s h.given.joins d h.before).field.listeners first_stay
+      ∙ sym stand.places.fars in
       let grows : GrowsAt (peer_place ds) (map held s.world.fars) (map held t.world.fars) =
-      halted_grows s.world s.queue s.peers ys s.link stand joins None h.id h.frames cut few h.mid.world t.world h.leaves.place h.leaves.peer h.leaves.more there h.leaves.numbered mid_many to_mid_grows h.leaves.ends in
+      halted_grows s.world s.queue s.peers ys s.link stand joins None h.id h.frames cut few h.mid.world t.world h.leaves.place h.leaves.peer h.leaves.more there h.leaves.numbered mid_many to_mid_grows
+      h.leaves.ends in
       let many : length t.world.fars ≡ length s.world.fars =
       sym (length-map t.world.fars held) ∙ grows_long (peer_place ds) (map held s.world.fars) (map held t.world.fars) grows ∙ length-map s.world.fars held in
       subst (λ x. Stand t (stories_behind s (cut_stretch x joins cut) t ys)) (sym h.command)

@@ -1,5 +1,6 @@
 -- What stands in the range of a link in its peer's list, by the machines of a bench and by their state.
-use Rattle.std.proofs.Common.{◌≡◌, ℕ, zero, suc, ◌+◌, ◌-◌, ◌<◌, ◌≤◌, min, List, [], ◌∷◌, length, map, take, drop, get_or, Bool, true, false, nat_le, if◌then◌else◌, Option, Some, None, refl, sym, ◌∙◌, ap, arith}
+use Rattle.std.proofs.Common.{◌≡◌, ℕ, zero, suc, ◌+◌, ◌-◌, ◌<◌, ◌≤◌, min, List, [], ◌∷◌, length, map, take, drop, get_or, Bool, true, false, nat_le, if◌then◌else◌, Option, Some, None, refl, sym, ◌∙◌}
+use Rattle.std.proofs.Common.{ap, arith}
 use Rattle.std.specs.Prelude.{unwrap_or, ◌&&◌}
 use Rattle.std.proofs.lemmas.Bool.{le-leb, lt-ltb}
 use Rattle.snep_core.specs.Server.{Received as Accepted}

@@ -10,7 +10,8 @@ use Rattle.snep_core.specs.Server.{Received as Accepted, serving}
 use Rattle.snep_core.specs.Talk.{client_sap, sap_of_slot}
 use Rattle.bench_script.specs.declared.command.Command.{Command}
 use Rattle.bench_script.specs.declared.command.Command.TheVariants as commands
-use Rattle.bench_script.specs.declared.command.Command.TheVariants.{Skip, Fates, PlaceT2, PlaceT3, PlaceT4, PlaceT5, PlacePeer, Lock, Busy, Offer, Remove, Dump, Inbox, Find, Crowd, Poll3, Read, Read3, Write, Write3, Link, Forge, Raw, Put, Get, Lookup, OnPut, OnGet, Unlink}
+use Rattle.bench_script.specs.declared.command.Command.TheVariants.{Skip, Fates, PlaceT2, PlaceT3, PlaceT4, PlaceT5, PlacePeer, Lock, Busy, Offer, Remove, Dump, Inbox, Find, Crowd, Poll3, Read, Read3}
+use Rattle.bench_script.specs.declared.command.Command.TheVariants.{Write, Write3, Link, Forge, Raw, Put, Get, Lookup, OnPut, OnGet, Unlink}
 use Rattle.bench_script.specs.declared.command.DeviceId.{DeviceId}
 use Rattle.bench_script.specs.DeviceIds.{bytes_of}
 use Rattle.bench_script.specs.Messages.{message_of}
@@ -25,7 +26,8 @@ use Rattle.bench_world.specs.World.{FarEnd, WholeWorld, Stable, bench_air, stabl
 use Rattle.bench_world.specs.Forging.{forged_general, opens_link}
 use Rattle.link_calls.specs.Asking.{LinkAsking, Does, Closes, Finding, Getting, put_from, Putting}
 use Rattle.bench_world.specs.Calls.{AllAdd, OfEnd, asked_behind, told_asked, with_accepted}
-use Rattle.bench_world.specs.Legal.{State, Given, Joins, Accepts, IsPeerPlaced, AnswerBy, AnswerLaw, ForgeLeaves, FrontOf, LegalStep, EachLegal, world_at_start, changed, due, due_by, peer_end_of, first_state, link_after, link_left, peers_after, peers_forged, peers_left, world_after, state_after, RawOpensPeer}
+use Rattle.bench_world.specs.Legal.{State, Given, Joins, Accepts, IsPeerPlaced, AnswerBy, AnswerLaw, ForgeLeaves, FrontOf, LegalStep, EachLegal, world_at_start, changed, due, due_by, peer_end_of}
+use Rattle.bench_world.specs.Legal.{first_state, link_after, link_left, peers_after, peers_forged, peers_left, world_after, state_after, RawOpensPeer}
 use Rattle.bench_world.specs.Rawing.{raw_opens}
 use Rattle.nfc_base.specs.Signal.{Signal}
 use Rattle.bench_devices.specs.AnyFrame.{peer_place, peers_in}
@@ -36,7 +38,8 @@ use Rattle.bench_world.specs.Linking.{LinkTells, link_if, own_general}
 use Rattle.bench_world.specs.LinkLaw.{AreCounted, KeepsLinkLaw, by_link, numbers_by_link, opener_of, openers_in, told_link, told_links}
 use Rattle.bench_world.specs.Links.{OpenLink, end_numbered, ended, ended_unless, is_with, with_link_if, with_link_within}
 use Rattle.bench_world.specs.Peers.{Peers, new_end, next_number, placed_under}
-use Rattle.bench_world.specs.Stories.{Opener, ByForge, ByLink, Story, Stretch, Beginning, BeginsAndEnds, NothingBegins, beginning, begun_by, story_of, new_story, story_if, story_within, whole_of, last_goes_on, open_goes_on, puts_in, stretch_of, ByRaw}
+use Rattle.bench_world.specs.Stories.{Opener, ByForge, ByLink, Story, Stretch, Beginning, BeginsAndEnds, NothingBegins, beginning, begun_by, story_of, new_story, story_if, story_within, whole_of}
+use Rattle.bench_world.specs.Stories.{last_goes_on, open_goes_on, puts_in, stretch_of, ByRaw}
 use Rattle.bench_world.proofs.open_link.Talks.{on_link, still_on}
 use Rattle.bench_world.proofs.devices.AtNumbers.{AreHeld, Held, held, held_at, held_offered, at_own_place, more_held, same_held, with_held}
 use Rattle.bench_world.proofs.devices.FarStays.{far_stay}
@@ -54,7 +57,8 @@ use Rattle.bench_world.proofs.link_law.Talked.{AddsBy, adds_all, apart_of, none_
 use Rattle.bench_world.proofs.link_law.StoriesHere.{PlacesOf, Stand, StandBy, ended_closed, view_at, view_of}
 use Rattle.bench_world.proofs.link_law.StoriesOnLink.{call_over, left_open, link_begins, linked_number, linked_peer, messages_of, talk_over, tolds_of}
 use Rattle.bench_world.proofs.link_law.StoriesStand.{View, at, Closed, Covered, Opened, IsInStep, closed_keep, open_keep}
-use Rattle.bench_world.proofs.link_law.StoriesStep.{as_many_held, as_many_offered, as_many_with, base_held, many_numbers, no_link, own_below, peer_more, peer_stands, removed_stands, same_link, same_peer, same_tag, tag_more, tag_stands}
+use Rattle.bench_world.proofs.link_law.StoriesStep.{as_many_held, as_many_offered, as_many_with, base_held, many_numbers, no_link, own_below, peer_more, peer_stands, removed_stands, same_link}
+use Rattle.bench_world.proofs.link_law.StoriesStep.{same_peer, same_tag, tag_more, tag_stands}
 use Rattle.bench_world.proofs.link_law.StoriesWithin.{within_covered, within_stands}
 use Rattle.bench_world.proofs.open_link.Unlinking.{count_ended, same_numbers}
 use Rattle.bench_world.proofs.link_law.Tales.{goes_on, stories_behind, stories_from}
@@ -62,7 +66,8 @@ use Rattle.bench_world.proofs.link_law.Tales.{goes_on, stories_behind, stories_f
 abbrev pub view_by : Peers → List (Option Held) → View
 view_by p ks = record { numbers = p.numbers; placed = next_number p; links = p.links; held = ks }
 
-module _ (w : WholeWorld) (q : List Fate) (p : Peers) (ys : List Story) (o : Option OpenLink) (stand : Stand (record { world = w; queue = q; peers = p; link = o }) ys) (g : Given) (told : Option Answer) where
+module _ (w : WholeWorld) (q : List Fate) (p : Peers) (ys : List Story) (o : Option OpenLink) (stand : Stand (record { world = w; queue = q; peers = p; link = o }) ys) (g : Given)
+    (told : Option Answer) where
   abbrev s : State
   s = record { world = w; queue = q; peers = p; link = o }
 
@@ -80,7 +85,8 @@ module _ (w : WholeWorld) (q : List Fate) (p : Peers) (ys : List Story) (o : Opt
   quietly c es t front none steps = subst (Steps c es) (sym (front.after ∙ ap (behind c) none)) steps
 
   -- where something was, each device keeps its place and each peer its number
-  pub places_behind : (c : Command) (es : List Event) (ps : List (Option ℕ)) → (changed s c).world.field.listeners ≡ w.field.listeners → length (world_after s g.joins c es).fars ≡ length w.fars → ps ≡ p.numbers
+  pub places_behind : (c : Command) (es : List Event) (ps : List (Option ℕ)) → (changed s c).world.field.listeners ≡ w.field.listeners → length (world_after s g.joins c es).fars ≡ length w.fars
+      → ps ≡ p.numbers
       → HavePlaces (world_after s g.joins c es).field.listeners ps (world_after s g.joins c es).fars
   places_behind c es ps devices many numbers =
       let now : WholeWorld = world_after s g.joins c es in
@@ -155,7 +161,8 @@ module _ (w : WholeWorld) (q : List Fate) (p : Peers) (ys : List Story) (o : Opt
       let closed : Closed (view_at ends now.fars) ys = subst (λ ks. Closed (view_by ends ks) ys) (sym same) (ended_closed o p w.fars ys stand.stand) in
       let numbers : ends.numbers ≡ p.numbers = same_numbers o p w.fars in
       link_begins now (queue_after (changed unopened c).queue es) ends id w.field.listeners w.fars same
-      (places_behind w q p ys o stand g (Some a) c es ends.numbers refl (as_many_held now.fars w.fars same) numbers) ys closed n (own_general miu) (next n is ∙ ap (λ k. k + 1) (sym (count_ended o p w.fars)))
+      (places_behind w q p ys o stand g (Some a) c es ends.numbers refl (as_many_held now.fars w.fars same) numbers) ys closed n (own_general miu)
+      (next n is ∙ ap (λ k. k + 1) (sym (count_ended o p w.fars)))
       (link_if (placed_under id w.field.listeners p.numbers) (device_with id w.field.listeners) miu window)
       (λ l e. ap (placed_under id w.field.listeners) numbers ∙ linked_peer (placed_under id w.field.listeners p.numbers) (device_with id w.field.listeners) miu window l e)
   link_here id miu window es same next b is =
@@ -167,7 +174,8 @@ module _ (w : WholeWorld) (q : List Fate) (p : Peers) (ys : List Story) (o : Opt
       (subst (λ ks. Closed (view_by ends ks) ys) (sym same) (ended_closed o p w.fars ys stand.stand))
 
 -- Payloads that were written by hand were sent over a link of their own: to the peer with this number, whose list gained these.
-module _ (w : WholeWorld) (q : List Fate) (p : Peers) (ys : List Story) (o : Option OpenLink) (stand : Stand (record { world = w; queue = q; peers = p; link = o }) ys) (joins : Joins) (told : Option Answer)
+module _ (w : WholeWorld) (q : List Fate) (p : Peers) (ys : List Story) (o : Option OpenLink) (stand : Stand (record { world = w; queue = q; peers = p; link = o }) ys) (joins : Joins)
+    (told : Option Answer)
     (id : List ℕ) (payloads : List (List ℕ)) (es : List Event) where
   abbrev unsent : State
   unsent = record { world = w; queue = q; peers = p; link = o }
@@ -186,7 +194,8 @@ module _ (w : WholeWorld) (q : List Fate) (p : Peers) (ys : List Story) (o : Opt
     as_many_sent =
         sym (length-map now.fars held) ∙ ap length grown ∙ as_many_with more peer p.numbers (map held w.fars) both_held ∙ length-map w.fars held
 
-  pub forged_stands : (t : State) (peer : ℕ) → placed_under id w.field.listeners p.numbers ≡ Some peer → (more : List Accepted) → (stable t.world).ends ≡ with_accepted more peer p.numbers (stable w).ends
+  pub forged_stands : (t : State) (peer : ℕ) → placed_under id w.field.listeners p.numbers ≡ Some peer → (more : List Accepted)
+      → (stable t.world).ends ≡ with_accepted more peer p.numbers (stable w).ends
       → t.peers ≡ with_link_within peer w.fars t.world.fars (ended o w.fars p) → t.link ≡ None → HavePlaces t.world.field.listeners p.numbers t.world.fars → opens_link id payloads es ≡ true
       → Stand t (stories_behind unsent sent t ys)
   forged_stands t peer placed more ends peers gone places opened =
@@ -197,7 +206,8 @@ module _ (w : WholeWorld) (q : List Fate) (p : Peers) (ys : List Story) (o : Opt
       (ap (λ v. if v then BeginsAndEnds ByForge id forged_general else NothingBegins) opened) refl gone
       (subst (λ ns. HavePlaces t.world.field.listeners ns t.world.fars) (sym (ap (λ (x : Peers). x.numbers) peers ∙ numbers)) places)
 
-  pub forged_covered : (t : State) (peer : ℕ) → placed_under id w.field.listeners p.numbers ≡ Some peer → (more : List Accepted) → (stable t.world).ends ≡ with_accepted more peer p.numbers (stable w).ends
+  pub forged_covered : (t : State) (peer : ℕ) → placed_under id w.field.listeners p.numbers ≡ Some peer → (more : List Accepted)
+      → (stable t.world).ends ≡ with_accepted more peer p.numbers (stable w).ends
       → t.peers ≡ with_link_within peer w.fars t.world.fars (ended o w.fars p) → Covered (view_at (ended o w.fars p) w.fars) → Covered (view_of t)
   forged_covered t peer placed more ends peers all =
       let before : Peers = ended o w.fars p in
@@ -206,7 +216,8 @@ module _ (w : WholeWorld) (q : List Fate) (p : Peers) (ys : List Story) (o : Opt
       (grown peer more t.world ends ∙ ap (λ ns. with_held more peer ns (map held w.fars)) (sym numbers)) peers refl all
 
 -- so behind the command, whether it is answered or cut off
-module _ (w : WholeWorld) (q : List Fate) (p : Peers) (ys : List Story) (o : Option OpenLink) (stand : Stand (record { world = w; queue = q; peers = p; link = o }) ys) (g : Given) (told : Option Answer)
+module _ (w : WholeWorld) (q : List Fate) (p : Peers) (ys : List Story) (o : Option OpenLink) (stand : Stand (record { world = w; queue = q; peers = p; link = o }) ys) (g : Given)
+    (told : Option Answer)
     (id : List ℕ) (payloads : List (List ℕ)) (es : List Event) where
   abbrev forged_from : State
   forged_from = record { world = w; queue = q; peers = p; link = o }
@@ -241,7 +252,8 @@ same_many [] (e ∷ es) stay = absurd stay
 same_many (d ∷ ds) [] stay = absurd stay
 same_many (d ∷ ds) (e ∷ es) stay = ap suc (same_many ds es stay.1)
 
-module _ (w : WholeWorld) (q : List Fate) (p : Peers) (ys : List Story) (o : Option OpenLink) (stand : Stand (record { world = w; queue = q; peers = p; link = o }) ys) (g : Given) (told : Option Answer)
+module _ (w : WholeWorld) (q : List Fate) (p : Peers) (ys : List Story) (o : Option OpenLink) (stand : Stand (record { world = w; queue = q; peers = p; link = o }) ys) (g : Given)
+    (told : Option Answer)
     (id : DeviceId) (frames : List Signal) (es : List Event) where
   abbrev raw_from : State
   raw_from = record { world = w; queue = q; peers = p; link = o }
@@ -252,7 +264,8 @@ module _ (w : WholeWorld) (q : List Fate) (p : Peers) (ys : List Story) (o : Opt
   abbrev raw_then : State
   raw_then = state_after raw_from g.joins raws es told
 
-  pub raw_after : peers_in w.field.listeners ≤ 1 → RawOpensPeer raw_from id frames es → Stand raw_then (stories_behind raw_from (record { command = raws; joins = g.joins; events = es; told = told }) raw_then ys)
+  pub raw_after : peers_in w.field.listeners ≤ 1 → RawOpensPeer raw_from id frames es → Stand raw_then
+      (stories_behind raw_from (record { command = raws; joins = g.joins; events = es; told = told }) raw_then ys)
   raw_after few opens =
       let first : WholeWorld = world_at_start raw_from g.joins raws in
       let now : WholeWorld = world_after raw_from g.joins raws es in
@@ -261,7 +274,8 @@ module _ (w : WholeWorld) (q : List Fate) (p : Peers) (ys : List Story) (o : Opt
       (places_behind w q p ys o stand g told raws es p.numbers refl many refl) opens
 
 -- Commands on the link that is open.
-module _ (w : WholeWorld) (q : List Fate) (p : Peers) (ys : List Story) (l : OpenLink) (stand : Stand (record { world = w; queue = q; peers = p; link = Some l }) ys) (g : Given) (told : Option Answer) where
+module _ (w : WholeWorld) (q : List Fate) (p : Peers) (ys : List Story) (l : OpenLink) (stand : Stand (record { world = w; queue = q; peers = p; link = Some l }) ys) (g : Given)
+    (told : Option Answer) where
   abbrev pub on : State
   on = record { world = w; queue = q; peers = p; link = Some l }
 
@@ -276,7 +290,8 @@ module _ (w : WholeWorld) (q : List Fate) (p : Peers) (ys : List Story) (l : Ope
   open_held = (base_held (view_of on) (Some l) ys stand.stand).0
 
   -- What a command on the link added, whatever it asks.
-  module _ (c : Command) (asked : LinkAsking) (asks : asked_on_link c ≡ Some asked) (may : Accepts on c) (es : List Event) (more : List Accepted) (adds : OfEnd (λ end. AddsBy asked told end more) (peer_end_of on l)) where
+  module _ (c : Command) (asked : LinkAsking) (asks : asked_on_link c ≡ Some asked) (may : Accepts on c) (es : List Event) (more : List Accepted)
+      (adds : OfEnd (λ end. AddsBy asked told end more) (peer_end_of on l)) where
     abbrev x : Stretch
     x = record { command = c; joins = g.joins; events = es; told = told }
 
@@ -289,10 +304,12 @@ module _ (w : WholeWorld) (q : List Fate) (p : Peers) (ys : List Story) (l : Ope
         let ts : List Told = tolds_of asked told in
         let P : List (Option Held) → Type 0 = λ ks. (z : Opened (view_by p ks) l.peer (last_goes_on (goes_on on x t) ys)) × (AreTold ts → IsInStep z.now.story) in
         subst P (sym accepted)
-        (talk_over on t l ys stand.stand x ws (apart_of on c asked asks may) ts (puts_asked c asked asks told) more (over_end (λ e. AddsBy asked told e more) (λ e. AllAdd ws e ts more) (λ e. adds_all asked told e more) (peer_end_of on l) adds)
+        (talk_over on t l ys stand.stand x ws (apart_of on c asked asks may) ts (puts_asked c asked asks told) more
+        (over_end (λ e. AddsBy asked told e more) (λ e. AllAdd ws e ts more) (λ e. adds_all asked told e more) (peer_end_of on l) adds)
         (unless_numbers left (Some l) now.fars p) accepted)
 
-    pub talk_so : (now : WholeWorld) (queue : List Fate) (left : Option OpenLink) → HavePlaces now.field.listeners p.numbers now.fars → map held now.fars ≡ with_held more l.peer p.numbers (map held w.fars)
+    pub talk_so : (now : WholeWorld) (queue : List Fate) (left : Option OpenLink) → HavePlaces now.field.listeners p.numbers now.fars
+        → map held now.fars ≡ with_held more l.peer p.numbers (map held w.fars)
         → ((k : OpenLink) → left ≡ Some k → (k.peer ≡ l.peer) × AreTold (tolds_of asked told)) → Goes c es (called_then now queue left)
     talk_so now queue left places accepted goes =
         let t : State = called_then now queue left in
@@ -301,7 +318,8 @@ module _ (w : WholeWorld) (q : List Fate) (p : Peers) (ys : List Story) (l : Ope
         let over : Stand t zs = call_over now queue p l zs z.0 left places (λ k e. let ends = goes k e in (ends.0, z.1 ends.1)) in
         let still : (changed on c).link ≡ Some l = ap (λ (s : State). s.link) (still_on on c (on_link c asked asks)) in
         let told_so : stories_behind on x t ys ≡ zs =
-        ap (λ (b : Beginning). open_goes_on (changed on c).link (goes_on on x t) ys ++ begun_by b (goes_on on x t) on t) (talk_begins c es told (on_link c asked asks)) ∙ append-nil (open_goes_on (changed on c).link (goes_on on x t) ys)
+        ap (λ (b : Beginning). open_goes_on (changed on c).link (goes_on on x t) ys ++ begun_by b (goes_on on x t) on t) (talk_begins c es told (on_link c asked asks))
+        ∙ append-nil (open_goes_on (changed on c).link (goes_on on x t) ys)
         ∙ ap (λ k. open_goes_on k (goes_on on x t) ys) still in
         subst (Stand t) (sym told_so) over
 
@@ -395,22 +413,26 @@ module _ (w : WholeWorld) (q : List Fate) (p : Peers) (ys : List Story) (g : Giv
   step_by o (PlaceT2 id blocks head) es t stand front law =
       let c : Command = PlaceT2 id blocks head in
       quietly w q p ys o stand g (Some a) c es t front (nothing_sent (world_at_start (from o) g.joins c) es front.turns front.each)
-      (tag_placed w q p ys o stand g (Some a) c es refl refl refl refl (ap (λ ks. record { numbers = p.numbers ++ None ∷ []; placed = next_number p; links = p.links; held = ks }) (map-append held w.fars (None ∷ [])))
+      (tag_placed w q p ys o stand g (Some a) c es refl refl refl refl (ap (λ ks. record { numbers = p.numbers ++ None ∷ []; placed = next_number p; links = p.links; held = ks })
+      (map-append held w.fars (None ∷ [])))
       (places_more w.field.listeners _ p.numbers None w.fars None (many_numbers (from o) ys stand) (λ peer. absurd cc) stand.places))
   step_by o (PlaceT4 id code container head) es t stand front law =
       let c : Command = PlaceT4 id code container head in
       quietly w q p ys o stand g (Some a) c es t front (nothing_sent (world_at_start (from o) g.joins c) es front.turns front.each)
-      (tag_placed w q p ys o stand g (Some a) c es refl refl refl refl (ap (λ ks. record { numbers = p.numbers ++ None ∷ []; placed = next_number p; links = p.links; held = ks }) (map-append held w.fars (None ∷ [])))
+      (tag_placed w q p ys o stand g (Some a) c es refl refl refl refl (ap (λ ks. record { numbers = p.numbers ++ None ∷ []; placed = next_number p; links = p.links; held = ks })
+      (map-append held w.fars (None ∷ [])))
       (places_more w.field.listeners _ p.numbers None w.fars None (many_numbers (from o) ys stand) (λ peer. absurd cc) stand.places))
   step_by o (PlaceT3 id blocks head) es t stand front law =
       let c : Command = PlaceT3 id blocks head in
       quietly w q p ys o stand g (Some a) c es t front (nothing_sent (world_at_start (from o) g.joins c) es front.turns front.each)
-      (tag_placed w q p ys o stand g (Some a) c es refl refl refl refl (ap (λ ks. record { numbers = p.numbers ++ None ∷ []; placed = next_number p; links = p.links; held = ks }) (map-append held w.fars (None ∷ [])))
+      (tag_placed w q p ys o stand g (Some a) c es refl refl refl refl (ap (λ ks. record { numbers = p.numbers ++ None ∷ []; placed = next_number p; links = p.links; held = ks })
+      (map-append held w.fars (None ∷ [])))
       (places_more w.field.listeners _ p.numbers None w.fars None (many_numbers (from o) ys stand) (λ peer. absurd cc) stand.places))
   step_by o (PlaceT5 id blocks size head) es t stand front law =
       let c : Command = PlaceT5 id blocks size head in
       quietly w q p ys o stand g (Some a) c es t front (nothing_sent (world_at_start (from o) g.joins c) es front.turns front.each)
-      (tag_placed w q p ys o stand g (Some a) c es refl refl refl refl (ap (λ ks. record { numbers = p.numbers ++ None ∷ []; placed = next_number p; links = p.links; held = ks }) (map-append held w.fars (None ∷ [])))
+      (tag_placed w q p ys o stand g (Some a) c es refl refl refl refl (ap (λ ks. record { numbers = p.numbers ++ None ∷ []; placed = next_number p; links = p.links; held = ks })
+      (map-append held w.fars (None ∷ [])))
       (places_more w.field.listeners _ p.numbers None w.fars None (many_numbers (from o) ys stand) (λ peer. absurd cc) stand.places))
   step_by o (PlacePeer id lr miu window limit) es t stand front law =
       let c : Command = PlacePeer id lr miu window limit in
@@ -418,11 +440,13 @@ module _ (w : WholeWorld) (q : List Fate) (p : Peers) (ys : List Story) (g : Giv
   step_by o (Lock id block) es t stand front law =
       let c : Command = Lock id block in
       quietly w q p ys o stand g (Some a) c es t front (nothing_sent (world_at_start (from o) g.joins c) es front.turns front.each)
-      (nothing_changed w q p ys o stand g (Some a) c es refl refl refl refl refl (places_changed (device_locked block) (locked_kind block) (bytes_of id) w.field.listeners p.numbers w.fars stand.places))
+      (nothing_changed w q p ys o stand g (Some a) c es refl refl refl refl refl (places_changed (device_locked block) (locked_kind block) (bytes_of id) w.field.listeners p.numbers w.fars
+      stand.places))
   step_by o (Busy id count times) es t stand front law =
       let c : Command = Busy id count times in
       quietly w q p ys o stand g (Some a) c es t front (nothing_sent (world_at_start (from o) g.joins c) es front.turns front.each)
-      (nothing_changed w q p ys o stand g (Some a) c es refl refl refl refl refl (places_changed (device_busy count times) (busy_kind count times) (bytes_of id) w.field.listeners p.numbers w.fars stand.places))
+      (nothing_changed w q p ys o stand g (Some a) c es refl refl refl refl refl (places_changed (device_busy count times) (busy_kind count times) (bytes_of id) w.field.listeners p.numbers w.fars
+      stand.places))
   step_by o (Offer id key value) es t stand front law =
       let c : Command = Offer id key value in
       quietly w q p ys o stand g (Some a) c es t front (nothing_sent (world_at_start (from o) g.joins c) es front.turns front.each) (offered_here w q p ys o stand g (Some a) id key value es)
@@ -442,17 +466,20 @@ module _ (w : WholeWorld) (q : List Fate) (p : Peers) (ys : List Story) (g : Giv
   step_by o Poll3 es t stand front law =
       after_front o Poll3 es t front (reset w q p ys o stand g (Some a) Poll3 es refl refl refl refl refl (same_held (world_after (from o) g.joins Poll3 es) w (ap (λ (z : Stable). z.ends) law.stays)))
   step_by o (Read3 id) es t stand front law =
-      after_front o (Read3 id) es t front (reset w q p ys o stand g (Some a) (Read3 id) es refl refl refl refl refl (same_held (world_after (from o) g.joins (Read3 id) es) w (ap (λ (z : Stable). z.ends) law.stays)))
+      after_front o (Read3 id) es t front (reset w q p ys o stand g (Some a) (Read3 id) es refl refl refl refl refl
+      (same_held (world_after (from o) g.joins (Read3 id) es) w (ap (λ (z : Stable). z.ends) law.stays)))
   step_by o (Write3 id m) es t stand front law =
       after_front o (Write3 id m) es t front (reset w q p ys o stand g (Some a) (Write3 id m) es refl refl refl refl refl (same_held (world_after (from o) g.joins (Write3 id m) es) w law.stores.ends))
   step_by o (Read id) es t stand front law =
-      after_front o (Read id) es t front (reset w q p ys o stand g (Some a) (Read id) es refl refl refl refl refl (same_held (world_after (from o) g.joins (Read id) es) w (ap (λ (z : Stable). z.ends) law.stays)))
+      after_front o (Read id) es t front (reset w q p ys o stand g (Some a) (Read id) es refl refl refl refl refl
+      (same_held (world_after (from o) g.joins (Read id) es) w (ap (λ (z : Stable). z.ends) law.stays)))
   step_by o (Write id m) es t stand front law =
       after_front o (Write id m) es t front (reset w q p ys o stand g (Some a) (Write id m) es refl refl refl refl refl (same_held (world_after (from o) g.joins (Write id m) es) w law.stores.ends))
   step_by o (Link id miu window) es t stand front law =
       after_front o (Link id miu window) es t front
       (link_here w q p ys o stand g a id miu window es (same_held (world_after (from o) g.joins (Link id miu window) es) w (ap (λ (z : Stable). z.ends) law.stays))
-      (λ n is. linked_number (DeviceId.A id) w.field.listeners (length p.links + 1) n (own_general miu) es (subst (LinkTells (DeviceId.A id) w.field.listeners (length p.links + 1) (own_general miu) es) is law.tells)) a refl)
+      (λ n is. linked_number (DeviceId.A id) w.field.listeners (length p.links + 1) n (own_general miu) es
+      (subst (LinkTells (DeviceId.A id) w.field.listeners (length p.links + 1) (own_general miu) es) is law.tells)) a refl)
   step_by o (Forge id payloads) es t stand front law = after_front o (Forge id payloads) es t front (by (opens_link id payloads es) refl law.leaves)
     where
       by : (v : Bool) → opens_link id payloads es ≡ v → ForgeLeaves v (from o) g.joins id payloads es → so o (Forge id payloads) es (state_after (from o) g.joins (Forge id payloads) es (Some a))

@@ -12,7 +12,8 @@ use Rattle.snep_core.specs.Talk.{Ends as Finishes, GivesUp, Goes, client_sap, sa
 use Rattle.link_calls.specs.CallDue.{CallStanding, Carries, Comes, BrokenBy, Strays}
 use Rattle.bench_script.specs.declared.command.Command.{Command}
 use Rattle.bench_script.specs.declared.command.Command.TheVariants as commands
-use Rattle.bench_script.specs.declared.command.Command.TheVariants.{Skip, Fates, PlaceT2, PlaceT3, PlaceT4, PlaceT5, PlacePeer, Lock, Busy, Offer, Remove, Dump, Inbox, Find, Crowd, Poll3, Read, Read3, Write, Write3, Link, Forge, Raw, Put, Get, Lookup, OnPut, OnGet, Unlink}
+use Rattle.bench_script.specs.declared.command.Command.TheVariants.{Skip, Fates, PlaceT2, PlaceT3, PlaceT4, PlaceT5, PlacePeer, Lock, Busy, Offer, Remove, Dump, Inbox, Find, Crowd, Poll3, Read, Read3}
+use Rattle.bench_script.specs.declared.command.Command.TheVariants.{Write, Write3, Link, Forge, Raw, Put, Get, Lookup, OnPut, OnGet, Unlink}
 use Rattle.bench_script.specs.declared.command.DeviceId.{DeviceId}
 use Rattle.bench_script.specs.declared.command.DeviceId.TheVariants.{A}
 use Rattle.bench_script.specs.DeviceIds.{bytes_of}
@@ -29,7 +30,8 @@ use Rattle.bench_world.specs.ByPayloads.{IsByPayloads, IfPayloads}
 use Rattle.link_calls.specs.Asking.{Call, LinkAsking, Does, Closes, Finding, Getting, put_from, Putting}
 use Rattle.bench_world.specs.Asked.{asked_on_link, slot_messages}
 use Rattle.bench_world.specs.Calls.{IfLinked, asked_behind, call_behind, link_behind, slots_behind, stands_on}
-use Rattle.bench_world.specs.Legal.{State, Given, AnswerBy, AnswerLaw, CallLaw, EachLegal, ForgeLeaves, LinkingLaw, world_at_start, changed, due, is_linked_to, link_after, link_left, peers_left, state_after, unlinked, world_after}
+use Rattle.bench_world.specs.Legal.{State, Given, AnswerBy, AnswerLaw, CallLaw, EachLegal, ForgeLeaves, LinkingLaw, world_at_start, changed, due, is_linked_to, link_after, link_left, peers_left}
+use Rattle.bench_world.specs.Legal.{state_after, unlinked, world_after}
 use Rattle.bench_world.specs.Linking.{link_if, own_general}
 use Rattle.bench_world.specs.Links.{OpenLink, begun_if, end_numbered, ended_unless, is_number, is_with}
 use Rattle.bench_world.specs.Rawing.{raw_opens}
@@ -95,8 +97,10 @@ end_offered_at key value n id (d ∷ ds) (q ∷ ps) os x e = by (pointwise nat_e
 
     by : (v w : Bool) → (if w then first_far os else end_numbered n ps (later_fars os)) ≡ Some x
         → (end_numbered n ps (later_fars os) ≡ Some x → IsOffered x (end_numbered n ps (with_place_changed (end_offered key value) id ds (later_fars os))))
-        → IsOffered x (if w then first_far (if v then option_map (end_offered key value) (first_far os) ∷ later_fars os else first_far os ∷ with_place_changed (end_offered key value) id ds (later_fars os))
-        else end_numbered n ps (later_fars (if v then option_map (end_offered key value) (first_far os) ∷ later_fars os else first_far os ∷ with_place_changed (end_offered key value) id ds (later_fars os))))
+        → IsOffered x (if w then first_far (if v then option_map (end_offered key value) (first_far os) ∷ later_fars os
+        else first_far os ∷ with_place_changed (end_offered key value) id ds (later_fars os))
+        else end_numbered n ps (later_fars (if v then option_map (end_offered key value) (first_far os) ∷ later_fars os
+        else first_far os ∷ with_place_changed (end_offered key value) id ds (later_fars os))))
     by true true e rest = changed_one (first_far os) e
     by true false e rest = same_end x (end_numbered n ps (later_fars os)) e
     by false true e rest = same_end x (first_far os) e
@@ -104,7 +108,8 @@ end_offered_at key value n id (d ∷ ds) (q ∷ ps) os x e = by (pointwise nat_e
 
 -- the link behind a call is to the same peer
 behind_peer : (l : OpenLink) (call : Call) (c : CallStanding) (k : OpenLink) → link_behind l call c ≡ Some k → k.peer ≡ l.peer
-behind_peer l call (Comes (Finishes jobs client) i) k e = (let same : record { peer = l.peer; initiator = i; client = client; slots = slots_behind call jobs l.slots } ≡ k = cc in sym (ap (λ (o : OpenLink). o.peer) same))
+behind_peer l call (Comes (Finishes jobs client) i) k e = (let same : record { peer = l.peer; initiator = i; client = client; slots = slots_behind call jobs l.slots } ≡ k = cc in
+    sym (ap (λ (o : OpenLink). o.peer) same))
 behind_peer l call (Comes (GivesUp client) i) k e = absurd cc
 behind_peer l call (Comes (Goes w) i) k e = absurd cc
 behind_peer l call (Carries (w, ns) s) k e = absurd cc
@@ -180,7 +185,8 @@ module _ (s : State) (g : Given) (ys : List Story) (h : KeptIn s ys) where
   same_kept c answer numbers fars link =
       let t : State = behind c [] answer in
       subst (λ o. Kept o t (open_goes_on s.link (goes_on s (stretch c [] answer) t) ys)) (sym link)
-      (stays c answer s.link h (λ l at x e. same_end x (end_numbered l.peer t.peers.numbers t.world.fars) (ap (λ qs. end_numbered l.peer qs t.world.fars) numbers ∙ ap (end_numbered l.peer ps) fars ∙ e)))
+      (stays c answer s.link h (λ l at x e. same_end x (end_numbered l.peer t.peers.numbers t.world.fars)
+      (ap (λ qs. end_numbered l.peer qs t.world.fars) numbers ∙ ap (end_numbered l.peer ps) fars ∙ e)))
 
   placed_kept : (c : Command) (answer : Answer) (p : Option ℕ) (o : Option FarEnd) → (behind c [] answer).peers.numbers ≡ ps ++ p ∷ [] → (behind c [] answer).world.fars ≡ os ++ o ∷ []
       → (behind c [] answer).link ≡ s.link → GoesOn s.link c [] answer
@@ -251,7 +257,8 @@ module _ (s : State) (g : Given) (ys : List Story) (h : KeptIn s ys) where
       (λ l k at is. behind_peer l call (stands l) k (sym (ap (λ o. call_behind (Some answer) o call stands) at) ∙ is)))
 
   -- so by whatever is asked
-  asked_kept : (asked : LinkAsking) (c : Command) (es : List Event) (answer : Answer) → (behind c es answer).peers.numbers ≡ ps → (behind c es answer).link ≡ asked_behind asked (Some answer) s.link g.joins.own es
+  asked_kept : (asked : LinkAsking) (c : Command) (es : List Event) (answer : Answer) → (behind c es answer).peers.numbers ≡ ps
+      → (behind c es answer).link ≡ asked_behind asked (Some answer) s.link g.joins.own es
       → ((l : OpenLink) → s.link ≡ Some l → ArrivesSo l g.joins.far (behind c es answer).world.fars es (behind c es answer).link) → GoesOn s.link c es answer
   asked_kept (Does call) c es answer numbers link came =
       call_kept call c es answer (λ l. stands_on l g.joins.own call es) numbers link (λ l at. subst (ArrivesSo l g.joins.far (behind c es answer).world.fars es) link (came l at))
@@ -263,7 +270,8 @@ module _ (s : State) (g : Given) (ys : List Story) (h : KeptIn s ys) where
   -- a command that asks this
   talk_kept : (asked : LinkAsking) (c : Command) (es : List Event) (answer : Answer) → asked_on_link c ≡ Some asked → AnswerBy (Some asked) s g c es answer → GoesOn s.link c es answer
   talk_kept asked c es answer asks law =
-      let peers : (behind c es answer).peers ≡ ended_unless (link_after s g.joins c es (Some answer)) s.link (world_after s g.joins c es).fars s.peers = ap (λ o. peers_left o s g.joins c es (Some answer)) asks in
+      let peers : (behind c es answer).peers ≡ ended_unless (link_after s g.joins c es (Some answer)) s.link (world_after s g.joins c es).fars s.peers =
+      ap (λ o. peers_left o s g.joins c es (Some answer)) asks in
       asked_kept asked c es answer
       (ap (λ (z : Peers). z.numbers) peers ∙ unless_numbers (link_after s g.joins c es (Some answer)) s.link (world_after s g.joins c es).fars s.peers)
       (ap (λ o. link_left o s g.joins c es (Some answer)) asks) (λ l at. (on_it (λ k. CallLaw s g.joins k asked c es answer) (answer ≡ answers.NoLink) l at law).came)
@@ -319,7 +327,8 @@ module _ (s : State) (g : Given) (ys : List Story) (h : KeptIn s ys) where
           let c : Command = Forge id payloads in
           let t : State = behind c es answer in
           over_kept s t (stretch c es answer) ys h.all refl refl
-          (begun_payloads s t (stretch c es answer) ByForge (length s.peers.links + 1) sends.peer forged_general (forged_numbers (opens_link id payloads es) s (A id) (world_after s g.joins c es).fars) id
+          (begun_payloads s t (stretch c es answer) ByForge (length s.peers.links + 1) sends.peer forged_general (forged_numbers (opens_link id payloads es) s (A id) (world_after s g.joins c es).fars)
+          id
           (ap (λ v. if v then BeginsAndEnds ByForge id forged_general else NothingBegins) opened) sends.placed refl sends.came)
       by false unopened stays = none_open (Forge id payloads) es answer refl refl (ap (λ v. if v then BeginsAndEnds ByForge id forged_general else NothingBegins) unopened)
   step_kept (Raw id frames) es answer turns each law = by (raw_opens id frames es) refl
@@ -329,14 +338,16 @@ module _ (s : State) (g : Given) (ys : List Story) (h : KeptIn s ys) where
           let c : Command = Raw id frames in
           let t : State = behind c es answer in
           over_kept s t (stretch c es answer) ys h.all refl refl
-          (subst (λ (b : Beginning). AllByRecursion (IfPayloads IsByPayloads) (begun_by b (goes_on s (stretch c es answer) t) s t)) (sym (ap (λ v. if v then BeginsAndEnds ByRaw (bytes_of id) forged_general else NothingBegins) opened))
+          (subst (λ (b : Beginning). AllByRecursion (IfPayloads IsByPayloads) (begun_by b (goes_on s (stretch c es answer) t) s t))
+          (sym (ap (λ v. if v then BeginsAndEnds ByRaw (bytes_of id) forged_general else NothingBegins) opened))
           (raw_within IsByPayloads s t (stretch c es answer) forged_general (placed_under (bytes_of id) s.world.field.listeners s.peers.numbers)))
       by false unopened = none_open (Raw id frames) es answer refl refl (ap (λ v. if v then BeginsAndEnds ByRaw (bytes_of id) forged_general else NothingBegins) unopened)
   step_kept (Put m) es answer turns each law = plain (Put m) es answer refl (talk_kept (Does (put_from 0 (message_of m))) (Put m) es answer refl law)
   step_kept (Get most key) es answer turns each law = plain (Get most key) es answer refl (talk_kept (Does (Getting client_sap most key)) (Get most key) es answer refl law)
   step_kept (Lookup name) es answer turns each law = plain (Lookup name) es answer refl (talk_kept (Does (Finding name)) (Lookup name) es answer refl law)
   step_kept (OnPut slot m) es answer turns each law = plain (OnPut slot m) es answer refl (talk_kept (Does (put_from slot (message_of m))) (OnPut slot m) es answer refl law)
-  step_kept (OnGet slot most key) es answer turns each law = plain (OnGet slot most key) es answer refl (talk_kept (Does (Getting (sap_of_slot slot) most key)) (OnGet slot most key) es answer refl law)
+  step_kept (OnGet slot most key) es answer turns each law = plain (OnGet slot most key) es answer refl
+      (talk_kept (Does (Getting (sap_of_slot slot) most key)) (OnGet slot most key) es answer refl law)
   step_kept (commands.Puts puts) es answer turns each law = plain (commands.Puts puts) es answer refl (talk_kept (Does (Putting (slot_messages puts))) (commands.Puts puts) es answer refl law)
   step_kept Unlink es answer turns each law = plain Unlink es answer refl (talk_kept Closes Unlink es answer refl law)
 

@@ -309,7 +309,8 @@ came_kept l s t x ys now h numbers came peer = by now came.going peer
         accepted_there l s t y on end.service.accepted
         (ap accepted_of end_is ∙ above_is came.new.end.service.accepted (end_numbered l.peer s.peers.numbers t.world.fars) came.accepted ∙ ap (λ (e : FarEnd). e.service.accepted) new_is)
 
-    by : (now : Option OpenLink) → IfLinked now (λ k. (end_numbered l.peer s.peers.numbers t.world.fars ≡ Some came.new.end) × IsCountedTo l.initiator.core.number x.events k.initiator.core.number) (Unit {0})
+    by : (now : Option OpenLink) → IfLinked now (λ k. (end_numbered l.peer s.peers.numbers t.world.fars ≡ Some came.new.end) × IsCountedTo l.initiator.core.number x.events k.initiator.core.number)
+        (Unit {0})
         → ((k : OpenLink) → now ≡ Some k → k.peer ≡ l.peer) → Kept now t (last_goes_on (goes_on s x t) ys)
     by None g p = ended_kept l s ys h (goes_on s x t) t (keeps_payloads (goes_on s x t y) (more_payloads l.initiator.core.number s y (up_to l s y on) x came.arrives.bytes t accepted))
     by (Some k) g p =

@@ -50,7 +50,8 @@ module _ (s t : State) (x : Stretch) (opener : Opener) (number peer : ℕ) (gene
       more_payloads 0 s y on x came.arrives.bytes t (now_is came.new.end.service.accepted came.accepted ∙ ap (λ (e : FarEnd). e.service.accepted) is)
 
   -- so it is of what begins in the stretch
-  module _ (id : List ℕ) (is : begins_in x ≡ BeginsAndEnds opener id general) (placed : placed_under id s.world.field.listeners s.peers.numbers ≡ Some peer) (next : number ≡ length s.peers.links + 1) where
+  module _ (id : List ℕ) (is : begins_in x ≡ BeginsAndEnds opener id general) (placed : placed_under id s.world.field.listeners s.peers.numbers ≡ Some peer)
+      (next : number ≡ length s.peers.links + 1) where
     pub begun_one : (old : FarEnd) → end_numbered peer s.peers.numbers s.world.fars ≡ Some old → begun_by (begins_in x) (goes_on s x t) s t ≡ goes_on s x t (new_whole old) ∷ []
     begun_one old stood =
         ap (λ (b : Beginning). begun_by b (goes_on s x t) s t) is ∙ ap (λ n. story_within opener general n (goes_on s x t) s) placed
@@ -66,7 +67,8 @@ all_both : (P : Story → Type 0) (ys zs : List Story) → AllByRecursion P ys �
 all_both P [] zs h k = k
 all_both P (y ∷ ys) zs h k = (h.0, all_both P ys zs h.1 k)
 
-pub all_over : (s t : State) (x : Stretch) (ys : List Story) (P : Story → Type 0) → (changed s x.command).link ≡ None → AllByRecursion P ys → AllByRecursion P (begun_by (begins_in x) (goes_on s x t) s t)
+pub all_over : (s t : State) (x : Stretch) (ys : List Story) (P : Story → Type 0) → (changed s x.command).link ≡ None → AllByRecursion P ys
+    → AllByRecursion P (begun_by (begins_in x) (goes_on s x t) s t)
     → AllByRecursion P (stories_behind s x t ys)
 all_over s t x ys P none all begun =
     let zs : List Story = begun_by (begins_in x) (goes_on s x t) s t in
@@ -74,7 +76,8 @@ all_over s t x ys P none all begun =
     subst S (sym none) (all_both P ys zs all begun)
 
 -- Of a link that frames of a script's own opened nothing is said so.
-raw_whole : (P : Story → Type 0) (s t : State) (x : Stretch) (general : List ℕ) (number peer : ℕ) (o : Option FarEnd) → AllByRecursion (IfPayloads P) (whole_of ByRaw general number peer o (goes_on s x t))
+raw_whole : (P : Story → Type 0) (s t : State) (x : Stretch) (general : List ℕ) (number peer : ℕ) (o : Option FarEnd)
+    → AllByRecursion (IfPayloads P) (whole_of ByRaw general number peer o (goes_on s x t))
 raw_whole P s t x general number peer None = tt
 raw_whole P s t x general number peer (Some old) = (tt, tt)
 

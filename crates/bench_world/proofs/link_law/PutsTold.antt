@@ -189,7 +189,8 @@ pub record OneFrom (client : ℕ) (limit : ℕ) (ws : List SlotMessage) (ts : Li
   pub adds : MessageAdds message limit told xs
   pub among : IsAmong told ts
 
-one_put_from : (client limit : ℕ) (ws : List SlotMessage) (ts : List Told) (more : List Accepted) → AreApart ws → EachAdds ws limit ts more → is_from client ws ≡ true → OneFrom client limit ws ts (accepted_from client more)
+one_put_from : (client limit : ℕ) (ws : List SlotMessage) (ts : List Told) (more : List Accepted) → AreApart ws → EachAdds ws limit ts more → is_from client ws ≡ true
+    → OneFrom client limit ws ts (accepted_from client more)
 one_put_from client limit [] ts more apart adds from = absurd cc
 one_put_from client limit (w ∷ ws) [] more apart adds from = absurd adds
 one_put_from client limit (w ∷ ws) (t ∷ ts) more apart adds from = by (sap_of_slot w.slot == client) refl from (one_put_from client limit ws ts more apart.3 adds.1)
@@ -217,8 +218,10 @@ one_put_from client limit (w ∷ ws) (t ∷ ts) more apart adds from = by (sap_o
         }
 
 -- what all of them add, by what a client's SAP adds
-module _ (ws : List SlotMessage) (apart : AreApart ws) (limit : ℕ) (ts : List Told) (more : List Accepted) (adds : EachAdds ws limit ts more) (others : (s : ℕ) → is_from s ws ≡ false → accepted_from s more ≡ []) where
-  by_client : (P : List Put → List (List ℕ) → Type 0) (client : ℕ) → P [] [] → ((m : List ℕ) (t : Told) (xs : List (List ℕ)) → MessageAdds m limit t xs → IsAmong t ts → P (record { message = m; told = t } ∷ []) xs)
+module _ (ws : List SlotMessage) (apart : AreApart ws) (limit : ℕ) (ts : List Told) (more : List Accepted) (adds : EachAdds ws limit ts more)
+    (others : (s : ℕ) → is_from s ws ≡ false → accepted_from s more ≡ []) where
+  by_client : (P : List Put → List (List ℕ) → Type 0) (client : ℕ) → P [] [] → ((m : List ℕ) (t : Told) (xs : List (List ℕ)) → MessageAdds m limit t xs → IsAmong t ts
+      → P (record { message = m; told = t } ∷ []) xs)
       → P (puts_from client (puts_told ws ts)) (accepted_from client more)
   by_client P client none one = by (is_from client ws) refl
     where

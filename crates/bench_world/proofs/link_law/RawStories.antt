@@ -38,7 +38,8 @@ use Rattle.bench_world.proofs.link_law.Tales.{stories_behind}
 use Rattle.bench_world.proofs.open_link.Unlinking.{count_ended, same_numbers}
 
 -- A list that gained at a place gained by the number that stands there.
-at_place_with : (more : List Accepted) (n place : ℕ) (ps : List (Option ℕ)) (ks : List (Option Held)) → IsFirstWith n place ps → length ps ≡ length ks → adding_at more place ks ≡ with_held more n ps ks
+at_place_with : (more : List Accepted) (n place : ℕ) (ps : List (Option ℕ)) (ks : List (Option Held)) → IsFirstWith n place ps → length ps ≡ length ks
+    → adding_at more place ks ≡ with_held more n ps ks
 at_place_with more n place [] ks first long = absurd first
 at_place_with more n place (p ∷ ps) [] first long = absurd cc
 at_place_with more n zero (p ∷ ps) (k ∷ ks) first long = sym (ap (λ v. if v then adding more k ∷ ks else k ∷ with_held more n ps ks) first)
@@ -115,7 +116,8 @@ placed_peer id (d ∷ ds) ps few peer = by_name (pointwise nat_eq (device_id d) 
     place_by : (v : Bool) → is_tag d ≡ v → peer_place (d ∷ ds) ≡ (if v then option_map suc (peer_place ds) else Some 0)
     place_by v t = ap (λ b. if b then option_map suc (peer_place ds) else Some 0) t
 
-    later : (peers_in ds ≤ 1 → OfPlaced (λ x. is_tag x ≡ false) (device_with id ds) → PlacedPeer id ds (later_fars ps)) → pointwise nat_eq (device_id d) id ≡ false → OfPlaced (λ x. is_tag x ≡ false) (device_with id ds) → (v : Bool) → is_tag d ≡ v → PlacedPeer id (d ∷ ds) ps
+    later : (peers_in ds ≤ 1 → OfPlaced (λ x. is_tag x ≡ false) (device_with id ds) → PlacedPeer id ds (later_fars ps)) → pointwise nat_eq (device_id d) id ≡ false
+        → OfPlaced (λ x. is_tag x ≡ false) (device_with id ds) → (v : Bool) → is_tag d ≡ v → PlacedPeer id (d ∷ ds) ps
     later more other there true t =
         let rest : PlacedPeer id ds (later_fars ps) = more (count true t) there in
         record {
@@ -131,7 +133,8 @@ placed_peer id (d ∷ ds) ps few peer = by_name (pointwise nat_eq (device_id d) 
     by_name false other there more = later more other there (is_tag d) refl
 
 -- Frames were sent, from a state to one in which no link is open.
-module _ (w : WholeWorld) (q : List Fate) (p : Peers) (ys : List Story) (o : Option OpenLink) (stand : Stand (record { world = w; queue = q; peers = p; link = o }) ys) (joins : Joins) (told : Option Answer)
+module _ (w : WholeWorld) (q : List Fate) (p : Peers) (ys : List Story) (o : Option OpenLink) (stand : Stand (record { world = w; queue = q; peers = p; link = o }) ys) (joins : Joins)
+    (told : Option Answer)
     (id : DeviceId) (frames : List Signal) (es : List Event) (few : peers_in w.field.listeners ≤ 1) where
   abbrev from : State
   from = record { world = w; queue = q; peers = p; link = o }
@@ -164,7 +167,8 @@ module _ (w : WholeWorld) (q : List Fate) (p : Peers) (ys : List Story) (o : Opt
       many_so (n ∷ ps) (k ∷ ks) all = ap suc (many_so ps ks all.1)
 
   -- what a list gained at the place of the peer, it gained by its number
-  by_number : (place n : ℕ) (more : List Accepted) (now : List (Option Held)) → get_or p.numbers place None ≡ Some n → now ≡ adding_at more place (map held w.fars) → now ≡ with_held more n before.numbers (map held w.fars)
+  by_number : (place n : ℕ) (more : List Accepted) (now : List (Option Held)) → get_or p.numbers place None ≡ Some n → now ≡ adding_at more place (map held w.fars)
+      → now ≡ with_held more n before.numbers (map held w.fars)
   by_number place n more now there is =
       is ∙ at_place_with more n place p.numbers (map held w.fars) (first_of (next_number p) n place p.numbers apart there) many_held
       ∙ ap (λ ns. with_held more n ns (map held w.fars)) (sym numbers)

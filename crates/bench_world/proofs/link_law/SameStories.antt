@@ -24,7 +24,8 @@ use Rattle.bench_world.specs.Forging.{opens_link}
 use Rattle.bench_world.specs.Rawing.{raw_opens}
 use Rattle.bench_world.proofs.forged.ForgeLeft.{forged_numbers}
 use Rattle.bench_world.specs.Stories as told
-use Rattle.bench_world.specs.Stories.{Opener, Story, Stretch, new_story, story_within, whole_of, accepted_of, accepted_in, Beginning, NothingBegins, BeginsOpen, BeginsAndEnds, beginning, begins_in, begun_by, gained_by, gained_on, last_goes_on, open_goes_on, range_of, stretch_of}
+use Rattle.bench_world.specs.Stories.{Opener, Story, Stretch, new_story, story_within, whole_of, accepted_of, accepted_in, Beginning, NothingBegins, BeginsOpen, BeginsAndEnds, beginning, begins_in}
+use Rattle.bench_world.specs.Stories.{begun_by, gained_by, gained_on, last_goes_on, open_goes_on, range_of, stretch_of}
 use Rattle.bench_world.proofs.devices.AtNumbers.{AreHeld, HasHeld, Held, IfHeld, at_number, held, held_at}
 use Rattle.bench_world.proofs.link_law.PayloadsKept.{unless_numbers}
 use Rattle.bench_world.proofs.link_law.StoriesHere.{Stand, StandBy, view_of}
@@ -109,17 +110,20 @@ all_last P [] x all = all.0
 all_last P (y ∷ xs) x all = all_last P xs x all.1
 
 -- by its pair
-by_pair : (t : State) (front : List Paired) (x : Paired) (y : Story) (k : Held) → Fits (view_of t) x → t.peers.links ≡ ranges front ++ x.range ∷ [] → x.story ≡ y → y.number ≡ 1 + length (stories front)
+by_pair : (t : State) (front : List Paired) (x : Paired) (y : Story) (k : Held) → Fits (view_of t) x → t.peers.links ≡ ranges front ++ x.range ∷ [] → x.story ≡ y
+    → y.number ≡ 1 + length (stories front)
     → at (view_of t) y.peer ≡ Some k → gained_on t y.number ≡ y.gained
 by_pair t front x y k fits links is number found =
     let same : x.story.number ≡ y.number = ap (λ (z : Story). z.number) is in
     let long : length (ranges front) ≡ length (stories front) = as_long front in
     let at_number : x.story.number ≡ suc (length (ranges front)) = omega (arith, same, number, long) in
-    let range : range_of x.story.number t.peers.links ≡ Some x.range = ap (λ n. range_of n t.peers.links) at_number ∙ ap (range_of (suc (length (ranges front)))) links ∙ range_last (ranges front) x.range in
+    let range : range_of x.story.number t.peers.links ≡ Some x.range = ap (λ n. range_of n t.peers.links) at_number ∙ ap (range_of (suc (length (ranges front)))) links
+    ∙ range_last (ranges front) x.range in
     subst (λ (z : Story). gained_on t z.number ≡ z.gained) is (gained_fits t x k fits (ap (λ (z : Story). at (view_of t) z.peer) is ∙ found) range)
 
 -- of some stories that stand, the last one's gain stands in its range, where its peer is placed
-pub last_gained : (t : State) (o : Option OpenLink) (before : List Story) (y : Story) (k : Held) → StandBy (view_of t) o (before ++ y ∷ []) → at (view_of t) y.peer ≡ Some k → gained_on t y.number ≡ y.gained
+pub last_gained : (t : State) (o : Option OpenLink) (before : List Story) (y : Story) (k : Held) → StandBy (view_of t) o (before ++ y ∷ []) → at (view_of t) y.peer ≡ Some k
+    → gained_on t y.number ≡ y.gained
 last_gained t None before y k stand found =
     let p = last_pair stand.done before y (sym stand.told) in
     let counted : y.number ≡ 1 + length (stories p.front) = counted_at 1 before y stand.base.counted ∙ ap (λ (ys : List Story). 1 + length ys) (sym p.fronts) in
@@ -203,7 +207,8 @@ module _ (s t : State) (x : Stretch) (ys : List Story) (stand : Stand s ys) (num
   none_begins (Raw id frames) es a l open_ = absurd (let clash : None ≡ Some l = open_ in cc)
   none_begins c es a l open_ = refl
 
-  placed : (l : OpenLink) → (changed s x.command).link ≡ Some l → (k : Held) → at (view_of s) l.peer ≡ Some k → (before : List Story) (y : Story) → y.peer ≡ l.peer → StandBy (view_of t) t.link (before ++ y ∷ [])
+  placed : (l : OpenLink) → (changed s x.command).link ≡ Some l → (k : Held) → at (view_of s) l.peer ≡ Some k → (before : List Story) (y : Story) → y.peer ≡ l.peer
+      → StandBy (view_of t) t.link (before ++ y ∷ [])
       → (h : Held) × (at (view_of t) y.peer ≡ Some h)
   placed l open_ k found before y own stands = by t.link refl stands
     where
@@ -226,7 +231,8 @@ module _ (s t : State) (x : Stretch) (ys : List Story) (stand : Stand s ys) (num
       let none : begins_in x ≡ NothingBegins = none_begins x.command x.events x.told l open_ in
       let goes : last_goes_on (goes_on s x t) ys ≡ before ++ next ∷ [] = ap (last_goes_on (goes_on s x t)) o.opened.told ∙ last_story (goes_on s x t) before y in
       let behind : stories_behind s x t ys ≡ before ++ next ∷ [] =
-      ap (λ (b : Beginning). open_goes_on (changed s x.command).link (goes_on s x t) ys ++ begun_by b (goes_on s x t) s t) none ∙ append-nil (open_goes_on (changed s x.command).link (goes_on s x t) ys)
+      ap (λ (b : Beginning). open_goes_on (changed s x.command).link (goes_on s x t) ys ++ begun_by b (goes_on s x t) s t) none
+      ∙ append-nil (open_goes_on (changed s x.command).link (goes_on s x t) ys)
       ∙ ap (λ k. open_goes_on k (goes_on s x t) ys) open_ ∙ goes in
       let stands : StandBy (view_of t) t.link (before ++ next ∷ []) = subst (StandBy (view_of t) t.link) behind after.stand in
       let k = placed l open_ o.opened.going.there o.opened.going.found before next o.opened.going.own stands in

@@ -31,7 +31,8 @@ use Rattle.bench_world.specs.declared.entry.Answer.TheVariants as answers
 use Rattle.bench_world.specs.World.{FarEnd, WholeWorld}
 use Rattle.bench_world.specs.Answering.{poll_answer}
 use Rattle.bench_world.specs.declared.entry.SlotDone.{SlotDone}
-use Rattle.bench_world.specs.Calls.{AllAdd, EachAdds, OfEnd, all_done, asked_behind, link_behind, slots_behind, stands_on, told_asked, told_at_once, told_call, told_done, told_each, told_jobs, told_one, told_several}
+use Rattle.bench_world.specs.Calls.{AllAdd, EachAdds, OfEnd, all_done, asked_behind, link_behind, slots_behind, stands_on, told_asked, told_at_once, told_call, told_done, told_each, told_jobs}
+use Rattle.bench_world.specs.Calls.{told_one, told_several}
 use Rattle.bench_world.specs.Legal.{State, peer_end_of}
 use Rattle.bench_world.specs.Linking.{LinkTells, LinkEnds, TellsLoss, link_if}
 use Rattle.bench_world.specs.Links.{OpenLink, ended_unless, begun_if, end_numbered, accepted_at}
@@ -82,7 +83,8 @@ jobs_told (Putting ws) jobs a e = at_once_told ws jobs a e
 jobs_told (Getting sap most key) jobs a e = tt
 jobs_told (Finding name) jobs a e = tt
 
-came_to_end : (call : Call) (l : OpenLink) (s : CallStanding) (a : Answer) (m : OpenLink) → told_call call s ≡ Some a → link_behind l call s ≡ Some m → (m.peer ≡ l.peer) × AreTold (tolds_of (Does call) (Some a))
+came_to_end : (call : Call) (l : OpenLink) (s : CallStanding) (a : Answer) (m : OpenLink) → told_call call s ≡ Some a → link_behind l call s ≡ Some m
+    → (m.peer ≡ l.peer) × AreTold (tolds_of (Does call) (Some a))
 came_to_end call l (Comes (Ends jobs k) i) a m told is =
     let same : record { peer = l.peer; initiator = i; client = k; slots = slots_behind call jobs l.slots } ≡ m = cc in
     (sym (ap (λ (o : OpenLink). o.peer) same), jobs_told call jobs a told)
@@ -108,7 +110,8 @@ call_over w q p l ys o (Some m) places in_step =
     let s = in_step m refl in record { places = places; stand = subst (λ n. Open (view_at p w.fars) n ys) (sym s.0) (record { opened = o; step = s.1 }) }
 
 -- A command on it, which puts these messages, told of so.
-module _ (s t : State) (l : OpenLink) (ys : List Story) (o : Open (view_of s) l.peer ys) (x : Stretch) (ws : List SlotMessage) (apart : AreApart ws) (ts : List Told) (puts : puts_in x.command x.told ≡ puts_told ws ts)
+module _ (s t : State) (l : OpenLink) (ys : List Story) (o : Open (view_of s) l.peer ys) (x : Stretch) (ws : List SlotMessage) (apart : AreApart ws) (ts : List Told)
+    (puts : puts_in x.command x.told ≡ puts_told ws ts)
     (more : List Accepted) (adds : OfEnd (λ end. AllAdd ws end ts more) (peer_end_of s l)) (numbers : t.peers.numbers ≡ s.peers.numbers)
     (accepted : map held t.world.fars ≡ with_held more l.peer s.peers.numbers (map held s.world.fars)) where
   abbrev y : Story

@@ -1,6 +1,7 @@
 -- How the stories of links stand beside the ranges that a bench keeps of them, and how that goes on as peers come and go, messages are accepted,
 -- and links begin and end.
-use Rattle.std.proofs.Common.{◌≡◌, ◌⊎◌, inl, inr, ℕ, suc, ◌+◌, ◌<◌, ◌≤◌, List, [], ◌∷◌, ◌++◌, map, length, Bool, true, false, nat_eq, if◌then◌else◌, Option, Some, None, refl, sym, ◌∙◌, ap, subst, arith}
+use Rattle.std.proofs.Common.{◌≡◌, ◌⊎◌, inl, inr, ℕ, suc, ◌+◌, ◌<◌, ◌≤◌, List, [], ◌∷◌, ◌++◌, map, length, Bool, true, false, nat_eq, if◌then◌else◌, Option, Some, None, refl, sym, ◌∙◌, ap, subst}
+use Rattle.std.proofs.Common.{arith}
 use Rattle.std.specs.Prelude.{not}
 use Rattle.std.specs.List.{AllByRecursion}
 use Rattle.std.proofs.lemmas.Bool.{eq-eqb, eqb-true, cases_lt}
@@ -209,7 +210,8 @@ went_on es arrivals ps more y = record y { events = y.events ++ es; arrivals = y
 abbrev pub came : List Event → List Arrival → Story → Story
 came es arrivals y = record y { events = y.events ++ es; arrivals = y.arrivals ++ arrivals }
 
-module _ (v : View) (n : ℕ) (ys : List Story) (o : Open v n ys) (go : Story → Story) (es : List Event) (arrivals : List Arrival) (is : go o.opened.now.story ≡ came es arrivals o.opened.now.story) where
+module _ (v : View) (n : ℕ) (ys : List Story) (o : Open v n ys) (go : Story → Story) (es : List Event) (arrivals : List Arrival)
+    (is : go o.opened.now.story ≡ came es arrivals o.opened.now.story) where
   abbrev before_it : Story
   before_it = o.opened.now.story
 
@@ -402,7 +404,8 @@ module _ (v : View) (n : ℕ) (ys : List Story) (c : Closed v ys) (more : List A
   abbrev grown_view : View
   grown_view = view_more v n more
 
-  by_own : (P Q : Held → Type 0) → ((k : Held) → P k → Q k) → ((k : Held) → P k → Q (record { limit = k.limit; accepted = k.accepted ++ more })) → (m : ℕ) → IfHeld P (at v m) → IfHeld Q (at grown_view m)
+  by_own : (P Q : Held → Type 0) → ((k : Held) → P k → Q k) → ((k : Held) → P k → Q (record { limit = k.limit; accepted = k.accepted ++ more })) → (m : ℕ) → IfHeld P (at v m)
+      → IfHeld Q (at grown_view m)
   by_own P Q same own m h = by (nat_eq n m) refl
     where
       weaker : (x : Option Held) → IfHeld P x → IfHeld Q x

@@ -54,7 +54,8 @@ pub same_link : (s t : State) (x : Stretch) (ys : List Story) → Stand s ys →
 same_link s t x ys stand puts world_at_start still same places own moves =
     let zs : List Story = open_goes_on s.link (goes_on s x t) ys in
     let told : stories_behind s x t ys ≡ zs =
-    ap (λ (b : Beginning). open_goes_on (changed s x.command).link (goes_on s x t) ys ++ begun_by b (goes_on s x t) s t) world_at_start ∙ append-nil (open_goes_on (changed s x.command).link (goes_on s x t) ys)
+    ap (λ (b : Beginning). open_goes_on (changed s x.command).link (goes_on s x t) ys ++ begun_by b (goes_on s x t) s t) world_at_start
+    ∙ append-nil (open_goes_on (changed s x.command).link (goes_on s x t) ys)
     ∙ ap (λ o. open_goes_on o (goes_on s x t) ys) still in
     let stands : StandBy (view_of t) s.link zs = still_stands s t x ys (view_of t) s.link (moves stand.stand) puts own in
     subst (Stand t) (sym told) (record { places = places; stand = subst (λ o. StandBy (view_of t) o zs) (sym same) stands })
@@ -64,7 +65,8 @@ pub no_link : (s t : State) (x : Stretch) (ys : List Story) → begins_in x ≡ 
     → PlacesOf t → Closed (view_of t) ys → Stand t (stories_behind s x t ys)
 no_link s t x ys world_at_start none gone places closed =
     let told : stories_behind s x t ys ≡ ys =
-    ap (λ (b : Beginning). open_goes_on (changed s x.command).link (goes_on s x t) ys ++ begun_by b (goes_on s x t) s t) world_at_start ∙ append-nil (open_goes_on (changed s x.command).link (goes_on s x t) ys)
+    ap (λ (b : Beginning). open_goes_on (changed s x.command).link (goes_on s x t) ys ++ begun_by b (goes_on s x t) s t) world_at_start
+    ∙ append-nil (open_goes_on (changed s x.command).link (goes_on s x t) ys)
     ∙ ap (λ o. open_goes_on o (goes_on s x t) ys) none in
     subst (Stand t) (sym told) (record { places = places; stand = subst (λ o. StandBy (view_of t) o ys) (sym gone) closed })
 

@@ -14,7 +14,8 @@ use Rattle.bench_world.proofs.devices.AtNumbers.{Held, adding, at_number, at_own
 use Rattle.bench_world.proofs.devices.PeersNumbered.{HavePlaces}
 use Rattle.bench_world.proofs.link_law.SameStories.{last_equal}
 use Rattle.bench_world.proofs.link_law.StoriesHere.{Stand, StandBy, count_is, gain, taken_by, view_at, view_of}
-use Rattle.bench_world.proofs.link_law.StoriesStand.{Closed, Covered, Open, Opened, View, at, closed_here, covered_linked, covered_more, covered_over, last_range, last_story, open_here, opened_more, stories, view_begun, view_ended, view_more, went_on}
+use Rattle.bench_world.proofs.link_law.StoriesStand.{Closed, Covered, Open, Opened, View, at, closed_here, covered_linked, covered_more, covered_over, last_range, last_story, open_here, opened_more}
+use Rattle.bench_world.proofs.link_law.StoriesStand.{stories, view_begun, view_ended, view_more, went_on}
 use Rattle.bench_world.proofs.link_law.Tales.{gained_by, goes_on, stories_behind}
 
 -- The end that stands at a number, and what it held.

@@ -77,7 +77,8 @@ module _ (air : Air Device) (ends : FarEnds) (peers : Peers) (l : OpenLink) (set
     in_step_still : (to : Step) → IsMade ghosts device_end joins.own from air l.initiator counted b j after to → InStepAt b spot j
     in_step_still to made =
         let t = made.turns device_linked devices_link spot (stands air ends peers l settled) ends in
-        let left = leaves air ends peers l settled (next air ends peers l settled c call is b j after joins _ t) (plain air ends peers l settled c call is b j after joins _ t) b joins.far after t.notes t.going in
+        let left = leaves air ends peers l settled (next air ends peers l settled c call is b j after joins _ t) (plain air ends peers l settled c call is b j after joins _ t) b joins.far after
+        t.notes t.going in
         in_step (own air ends peers l settled) spot b left.at j j.core.number [] [] made.open_.in_step.1 made.open_.in_step.0
 
     -- the link is open again
@@ -94,46 +95,59 @@ module _ (air : Air Device) (ends : FarEnds) (peers : Peers) (l : OpenLink) (set
     }
 
     -- the call came to its end
-    pub made_obeyed : (jobs : List OnSap) (client : EndState) (answer : Answer) → IsMade ghosts device_end joins.own from air l.initiator counted b j after (Ends jobs client) → told_step call (Ends jobs client) ≡ Some answer
+    pub made_obeyed : (jobs : List OnSap) (client : EndState) (answer : Answer) → IsMade ghosts device_end joins.own from air l.initiator counted b j after (Ends jobs client)
+        → told_step call (Ends jobs client) ≡ Some answer
         → ((loss : Loss) → answer ≡ answers.LinkEnded loss → ⊥) → AnswerSo answer → Accords client after.end → ObeyedBy joins Old (Open jobs client) c answer
     made_obeyed jobs client answer made told never law accords =
         let t = made.turns device_linked devices_link spot (stands air ends peers l settled) ends in
         came air ends peers l settled c call is b j after joins (Comes (Ends jobs client) j) t made.carried.setting jobs client refl answer told never
-        (added_calm air b (made_calm joins.own from (Ends jobs client) air b l.initiator j counted after made) settled.idle.quiet (events air ends peers l settled c call is b j after joins (Comes (Ends jobs client) j) t)
-        (trace_is air ends peers l settled (next air ends peers l settled c call is b j after joins (Comes (Ends jobs client) j) t) (plain air ends peers l settled c call is b j after joins (Comes (Ends jobs client) j) t) b joins.far after t.notes t.going)) law
+        (added_calm air b (made_calm joins.own from (Ends jobs client) air b l.initiator j counted after made) settled.idle.quiet
+        (events air ends peers l settled c call is b j after joins (Comes (Ends jobs client) j) t)
+        (trace_is air ends peers l settled (next air ends peers l settled c call is b j after joins (Comes (Ends jobs client) j) t)
+        (plain air ends peers l settled c call is b j after joins (Comes (Ends jobs client) j) t) b joins.far after t.notes t.going)) law
         (made.carried.arrives, (linked_in b spot j (in_step_still (Ends jobs client) made), made.carried.counted refl)) (reopened (Ends jobs client) jobs client made accords)
 
     -- its link ended
-    pub lost_obeyed : (why : EndCause) (answer : Answer) → IsEndedBy ghosts device_end joins.own from air l.initiator counted b j after why → told_loss why ≡ Some answer → AnswerSo answer → ObeyedBy joins Old Gone c answer
+    pub lost_obeyed : (why : EndCause) (answer : Answer) → IsEndedBy ghosts device_end joins.own from air l.initiator counted b j after why → told_loss why ≡ Some answer → AnswerSo answer
+        → ObeyedBy joins Old Gone c answer
     lost_obeyed why answer ended told law =
         let t = ended.turns device_linked devices_link spot (stands air ends peers l settled) ends in
         let es : List Event = events air ends peers l settled c call is b j after joins (BrokenBy why) t in
         let noisy : why ≡ cause.SixBad → 0 < noise es = λ six.
         subst (λ xs. 0 < noise xs) (ap (λ xs. drop (length xs) b.trace) settled.idle.quiet
-        ∙ trace_is air ends peers l settled (next air ends peers l settled c call is b j after joins (BrokenBy why) t) (plain air ends peers l settled c call is b j after joins (BrokenBy why) t) b joins.far after t.notes t.going)
+        ∙ trace_is air ends peers l settled (next air ends peers l settled c call is b j after joins (BrokenBy why) t) (plain air ends peers l settled c call is b j after joins (BrokenBy why) t) b
+        joins.far after t.notes t.going)
         (ended.noisy six) in
-        broke air ends peers l settled c call is b j after joins (BrokenBy why) t ended.carried.setting why refl answer told (lost_is why told) (λ e. noisy (six_is why told e)) law (ended.carried.arrives, tt)
+        broke air ends peers l settled c call is b j after joins (BrokenBy why) t ended.carried.setting why refl answer told (lost_is why told) (λ e. noisy (six_is why told e)) law
+        (ended.carried.arrives, tt)
       where
         lost_is : (w : EndCause) → told_loss w ≡ Some answer → ((w ≡ cause.FieldLost) ↔ (answer ≡ answers.LinkEnded losses.FieldLost))
         lost_is cause.FieldLost e = ((λ q. let same : answers.LinkEnded losses.FieldLost ≡ answer = cc in sym same), (λ q. refl))
-        lost_is cause.SixBad e = ((λ q. absurd cc), (λ q. absurd (let same : answers.LinkEnded losses.SixBad ≡ answer = cc in let clash : answers.LinkEnded losses.SixBad ≡ answers.LinkEnded losses.FieldLost = same ∙ q in cc)))
+        lost_is cause.SixBad e = (
+          (λ q. absurd cc),
+          (λ q. absurd (let same : answers.LinkEnded losses.SixBad ≡ answer = cc in let clash : answers.LinkEnded losses.SixBad ≡ answers.LinkEnded losses.FieldLost = same ∙ q in cc)),
+        )
         lost_is cause.Protocol e = absurd cc
         lost_is cause.Memory e = absurd cc
 
         six_is : (w : EndCause) → told_loss w ≡ Some answer → answer ≡ answers.LinkEnded losses.SixBad → w ≡ cause.SixBad
-        six_is cause.FieldLost e q = absurd (let same : answers.LinkEnded losses.FieldLost ≡ answer = cc in let clash : answers.LinkEnded losses.FieldLost ≡ answers.LinkEnded losses.SixBad = same ∙ q in cc)
+        six_is cause.FieldLost e q = absurd (let same : answers.LinkEnded losses.FieldLost ≡ answer = cc in
+            let clash : answers.LinkEnded losses.FieldLost ≡ answers.LinkEnded losses.SixBad = same ∙ q in cc)
         six_is cause.SixBad e q = refl
         six_is cause.Protocol e q = absurd cc
         six_is cause.Memory e q = absurd cc
 
     -- memory was wanting
     abbrev pub Stores : Type 0
-    Stores = (joins : Joins) (events : List Event) → (devices : (stable (world_after (from_state air ends peers l settled) joins c events)).devices ≡ (stable (from_state air ends peers l settled).world).devices)
+    Stores = (joins : Joins) (events : List Event)
+        → (devices : (stable (world_after (from_state air ends peers l settled) joins c events)).devices ≡ (stable (from_state air ends peers l settled).world).devices)
         → (adds : (more : List Received) → after.end.service.accepted ≡ far.service.accepted ++ more
         → (stable (world_after (from_state air ends peers l settled) joins c events)).ends ≡ with_accepted more l.peer peers.numbers (stable (from_state air ends peers l settled).world).ends)
-        → (stays : after.end.service.accepted ≡ far.service.accepted → LeavesStable (from_state air ends peers l settled) joins c events) → (came : CutCame (from_state air ends peers l settled) joins l c events) → CutStores (from_state air ends peers l settled) joins c events
+        → (stays : after.end.service.accepted ≡ far.service.accepted → LeavesStable (from_state air ends peers l settled) joins c events)
+        → (came : CutCame (from_state air ends peers l settled) joins l c events) → CutStores (from_state air ends peers l settled) joins c events
 
-    pub short_cut : IsCutShort ghosts device_end joins.own from air l.initiator counted b j after → Stores → (more : List Received) → after.end.service.accepted ≡ far.service.accepted ++ more → HaltAdds c far more
+    pub short_cut : IsCutShort ghosts device_end joins.own from air l.initiator counted b j after → Stores → (more : List Received) → after.end.service.accepted ≡ far.service.accepted ++ more
+        → HaltAdds c far more
         → CutFront joins (from_state air ends peers l settled) c b.trace (state_at Gone) ⊎ PeerHalts joins (from_state air ends peers l settled) c b.trace (state_at Gone)
     short_cut cut stores more adds fits = by_left (cut.front device_linked devices_link spot (stands air ends peers l settled) ends)
       where

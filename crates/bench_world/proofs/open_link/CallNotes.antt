@@ -10,7 +10,8 @@ use Rattle.nfc_base.specs.declared.carrier.EndCause.TheVariants as cause
 use Rattle.nfc_base.specs.Signal.{Signal, whole_a}
 use Rattle.nfc_base.specs.Trace.{breaks, of_break, heard_by}
 use Rattle.air_core.specs.Joint.{Joint, Nothing, Single, Clashing}
-use Rattle.air_core.specs.Conversation.{AirModel, Note, Lit, Got, Lost, note, Next, Over, LightUp, Asks, IsDemand, Moment, Going, replay, receptions, joint_events, joint_back, turn_events, turn_heard, Move, Light, Ask, trace_of}
+use Rattle.air_core.specs.Conversation.{AirModel, Note, Lit, Got, Lost, note, Next, Over, LightUp, Asks, IsDemand, Moment, Going, replay, receptions, joint_events, joint_back, turn_events, turn_heard}
+use Rattle.air_core.specs.Conversation.{Move, Light, Ask, trace_of}
 use Rattle.air_core.proofs.Following.{trace_first, turn_known}
 use Rattle.air_core.proofs.LostField.{HasLost, breaks-append}
 use Rattle.dep_link.specs.declared.initiator.InitStep.{InitStep}

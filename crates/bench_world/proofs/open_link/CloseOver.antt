@@ -65,16 +65,19 @@ module _ (old mid : Machines) (settled : IsSettled old) (q : ℕ) (l : OpenLink)
   abbrev Fails : SnepFault → Choosing FarEnd → Air Device → Type 0
   Fails e f a = ClosingFails ghosts device_end joins.own (closes l.client) a l.initiator f b after client j e
 
-  pub told_closed : (new : Machines) → new ≡ Down → (to : Step) → Closed to far mid.air → (Accords l.client far.end → Quiet → IsClosed far.end client after.end) → ObeyedBy joins old new Unlink answers.Unlinked
+  pub told_closed : (new : Machines) → new ≡ Down → (to : Step) → Closed to far mid.air → (Accords l.client far.end → Quiet → IsClosed far.end client after.end)
+      → ObeyedBy joins old new Unlink answers.Unlinked
   told_closed new down to r closed =
       gone_so old mid settled q l far.end t joins b j after client slots Unlink new answers.Unlinked down
-      (released old.air old.ends old.peers l (so old mid settled q l far.end t) joins b after none_at_rls j client to (of_own (Closed to) r) (of_own (λ f a. IsClosed f.end client after.end) (closed accord none_at_rls)))
+      (released old.air old.ends old.peers l (so old mid settled q l far.end t) joins b after none_at_rls j client to (of_own (Closed to) r)
+      (of_own (λ f a. IsClosed f.end client after.end) (closed accord none_at_rls)))
 
   pub told_lost : (new : Machines) → new ≡ Down → (x : SnepFault) (c : EndCause) → x ≡ LinkEnded c → Fails x far mid.air → (Accords l.client far.end → Quiet → AsideFails far.end x after.end)
       → (answer : Answer) → told_loss c ≡ Some answer → ObeyedBy joins old new Unlink answer
   told_lost new down x c r fails left answer told =
       gone_so old mid settled q l far.end t joins b j after client slots Unlink new answer down
-      (by c told (of_own (Fails (LinkEnded c)) (subst (λ y. Fails y far mid.air) r fails)) (of_own (λ f a. AsideFails f.end (LinkEnded c) after.end) (subst (λ y. AsideFails far.end y after.end) r (left accord none_at_rls))))
+      (by c told (of_own (Fails (LinkEnded c)) (subst (λ y. Fails y far mid.air) r fails)) (of_own (λ f a. AsideFails f.end (LinkEnded c) after.end)
+      (subst (λ y. AsideFails far.end y after.end) r (left accord none_at_rls))))
     where
       by : (c : EndCause) → told_loss c ≡ Some answer → Fails (LinkEnded c) (Of Own) old.air → AsideFails Own (LinkEnded c) after.end → ObeyedBy joins Was Gone Unlink answer
       by cause.FieldLost z x a = lost old.air old.ends old.peers l (so old mid settled q l far.end t) joins b after none_at_rls j client cause.FieldLost answer x z a
@@ -82,7 +85,8 @@ module _ (old mid : Machines) (settled : IsSettled old) (q : ℕ) (l : OpenLink)
       by cause.Protocol z x a = absurd x
       by cause.Memory z x a = absurd x
 
-  pub told_short : (new : Machines) → new ≡ Down → (x : SnepFault) → x ≡ Memory → Fails x far mid.air → (Accords l.client far.end → Quiet → AsideFails far.end x after.end) → IsCutOffBy joins old new Unlink
+  pub told_short : (new : Machines) → new ≡ Down → (x : SnepFault) → x ≡ Memory → Fails x far mid.air → (Accords l.client far.end → Quiet → AsideFails far.end x after.end)
+      → IsCutOffBy joins old new Unlink
   told_short new down x r fails left =
       short_so old mid settled q l far.end t joins b j after client slots Unlink new down
       (short old.air old.ends old.peers l (so old mid settled q l far.end t) joins b after none_at_rls j client

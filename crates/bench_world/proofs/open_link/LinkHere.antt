@@ -44,7 +44,8 @@ module _ (m : Machines) (settled : IsSettled m) (unlinked : m.link ≡ None) (id
   with_link_of : (new : Air Device) → under m.ends m.peers None new ≡ upon m new
   with_link_of new = ap (λ l. under m.ends m.peers l new) (sym unlinked)
 
-  pub here_missed : (new : Air Device) (e : PollFault) (answer : Told_answer) → Selects (A id) (Err e) (moment m.air) (moment new) → poll_answer e ≡ Some answer → Obeyed m (upon m new) (Link id miu rw) answer
+  pub here_missed : (new : Air Device) (e : PollFault) (answer : Told_answer) → Selects (A id) (Err e) (moment m.air) (moment new) → poll_answer e ≡ Some answer
+      → Obeyed m (upon m new) (Link id miu rw) answer
   here_missed new e answer s is =
       subst (λ x. Obeyed m x (Link id miu rw) answer) (with_link_of new)
       (in_this (under m.ends m.peers None new) answer (missed_link m.ends m.peers m.air id miu rw settled.idle there may new e answer s is))
@@ -90,17 +91,20 @@ module _ (m : Machines) (settled : IsSettled m) (unlinked : m.link ≡ None) (id
           (subst (λ x. CutFront no_joins (state_at x) (Link id miu rw) left_none.air.trace (state_at left_none)) none_open
           (cut_link m.ends m.peers m.air id miu rw settled.idle there may mid place s peer served.end o.after served.stands o.air o.came asked))
 
-      ended_now : (cause : EndCause) (loss : _) → o.came ≡ Err cause → NotOpened cause (Ok (answers.LinkEnded loss)) → now ≡ moved_at (upon m mid) o.air place o.after → Obeyed m now (Link id miu rw) (answers.LinkEnded loss)
+      ended_now : (cause : EndCause) (loss : _) → o.came ≡ Err cause → NotOpened cause (Ok (answers.LinkEnded loss)) → now ≡ moved_at (upon m mid) o.air place o.after
+          → Obeyed m now (Link id miu rw) (answers.LinkEnded loss)
       ended_now cause loss came told is =
           subst (λ x. Obeyed m x (Link id miu rw) (answers.LinkEnded loss)) (moved_none ∙ sym is)
           (in_this left_none (answers.LinkEnded loss)
           (ended_link m.ends m.peers m.air id miu rw settled.idle there may mid place s peer served.end o.after served.stands o.air o.came asked cause loss came told))
 
-      opened_now : (p : InitState × ArrayVec ℕ) → o.came ≡ Ok p → now ≡ machines_at_start (moved_at (upon m mid) o.air place o.after) served.peer (length served.end.service.accepted) p.0 (new_client miu rw p.1.items)
+      opened_now : (p : InitState × ArrayVec ℕ) → o.came ≡ Ok p → now ≡ machines_at_start (moved_at (upon m mid) o.air place o.after) served.peer (length served.end.service.accepted) p.0
+          (new_client miu rw p.1.items)
           → Obeyed m now (Link id miu rw) (answers.Linked (length m.peers.links + 1))
       opened_now p came is =
           subst (λ x. Obeyed m x (Link id miu rw) (answers.Linked (length m.peers.links + 1))) (sym is)
-          (in_this (machines_at_start (moved_at (upon m mid) o.air place o.after) served.peer (length served.end.service.accepted) p.0 (new_client miu rw p.1.items)) (answers.Linked (length m.peers.links + 1))
+          (in_this (machines_at_start (moved_at (upon m mid) o.air place o.after) served.peer (length served.end.service.accepted) p.0 (new_client miu rw p.1.items))
+          (answers.Linked (length m.peers.links + 1))
           (opened_link m.ends m.peers m.air id miu rw settled.idle there may mid place s peer served.end o.after served.stands o.air o.came asked served.peer served.numbered p came))
 
       by_cases : (came : Result (InitState × ArrayVec ℕ) EndCause) (r : Result Told_answer ObeyFault) → o.came ≡ came

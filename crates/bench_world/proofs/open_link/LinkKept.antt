@@ -32,7 +32,8 @@ AloneAt d place [] = ⊥
 AloneAt d zero (x ∷ xs) = (x ≡ d) × AllByRecursion (IsAside ghosts (device_id d)) xs
 AloneAt d (suc place) (x ∷ xs) = IsAside ghosts (device_id d) x × AloneAt d place xs
 
-at_split : (d : Device) (before behind : List Device) → AllByRecursion (IsAside ghosts (device_id d)) before → AllByRecursion (IsAside ghosts (device_id d)) behind → AloneAt d (length before) (before ++ d ∷ behind)
+at_split : (d : Device) (before behind : List Device) → AllByRecursion (IsAside ghosts (device_id d)) before → AllByRecursion (IsAside ghosts (device_id d)) behind
+    → AloneAt d (length before) (before ++ d ∷ behind)
 at_split d [] behind first later = (refl, later)
 at_split d (x ∷ before) behind first later = (first.0, at_split d before behind first.1 later)
 
@@ -138,7 +139,8 @@ pub record Changed (i : InitState) (place : ℕ) (ls : List Device) : Type 0 whe
   pub device : Device
   pub stays : Stays i device place ls
 
-pub stays_changed : (i : InitState) (d : Device) (place : ℕ) (change : Device → Device) (before : List Device) (e : Device) (behind : List Device) → KeepsTalk change e → Stays i d place (before ++ e ∷ behind)
+pub stays_changed : (i : InitState) (d : Device) (place : ℕ) (change : Device → Device) (before : List Device) (e : Device) (behind : List Device) → KeepsTalk change e
+    → Stays i d place (before ++ e ∷ behind)
     → Changed i place (before ++ change e ∷ behind)
 stays_changed i d place change before e behind k s = elim (changed_alone change d place before e behind k s.alone) [
   | inl alone ↦ record { device = d; stays = record { alone = alone; selected = s.selected; is = s.is; step = s.step; cut = s.cut; linked = s.linked } }
@@ -160,14 +162,39 @@ stays_changed i d place change before e behind k s = elim (changed_alone change 
 
 -- a block that is locked plays no part in a link
 pub locked_talks : (block : ℕ) (d : Device) → KeepsTalk (device_locked block) d
-locked_talks block (T2 d) = record { aside = λ own a. record { rests = a.rests; other = a.other }; id = refl; selected = refl; linked = refl; peer = λ s l p. absurd cc; step = λ i t. t; cut = λ n c. c }
+locked_talks block (T2 d) = record {
+  aside = λ own a. record { rests = a.rests; other = a.other };
+  id = refl;
+  selected = refl;
+  linked = refl;
+  peer = λ s l p. absurd cc;
+  step = λ i t. t;
+  cut = λ n c. c;
+}
 locked_talks block (T4 d) = record { aside = λ own a. a; id = refl; selected = refl; linked = refl; peer = λ s l p. p; step = λ i t. t; cut = λ n c. c }
 locked_talks block (Peer d) = record { aside = λ own a. a; id = refl; selected = refl; linked = refl; peer = λ s l p. p; step = λ i t. t; cut = λ n c. c }
-locked_talks block (T5 p) = record { aside = λ own a. record { rests = a.rests; other = a.other }; id = refl; selected = refl; linked = refl; peer = λ s l p. absurd cc; step = λ i t. t; cut = λ n c. c }
-locked_talks block (T3 p) = record { aside = λ own a. record { rests = a.rests; other = a.other }; id = refl; selected = refl; linked = refl; peer = λ s l p. absurd cc; step = λ i t. t; cut = λ n c. c }
+locked_talks block (T5 p) = record {
+  aside = λ own a. record { rests = a.rests; other = a.other };
+  id = refl;
+  selected = refl;
+  linked = refl;
+  peer = λ s l p. absurd cc;
+  step = λ i t. t;
+  cut = λ n c. c;
+}
+locked_talks block (T3 p) = record {
+  aside = λ own a. record { rests = a.rests; other = a.other };
+  id = refl;
+  selected = refl;
+  linked = refl;
+  peer = λ s l p. absurd cc;
+  step = λ i t. t;
+  cut = λ n c. c;
+}
 
 -- nor does how often a peer asks for more time, while none is asked for
-busy_peer : (id : List ℕ) (front : Front) (t : TargetState) (linked : Bool) → is_active front ≡ true → linked ≡ true → IsPeer ghosts device_end (Peer (record { id = id; front = front; upper = record { target = t; linked = linked } }))
+busy_peer : (id : List ℕ) (front : Front) (t : TargetState) (linked : Bool) → is_active front ≡ true → linked ≡ true
+    → IsPeer ghosts device_end (Peer (record { id = id; front = front; upper = record { target = t; linked = linked } }))
 busy_peer id Off t linked a l = absurd cc
 busy_peer id Idle t linked a l = absurd cc
 busy_peer id Sleep t linked a l = absurd cc
@@ -178,7 +205,15 @@ busy_peer id (Active starred) t linked a l =
 
 pub busy_talks : (count times : ℕ) → count ≤ 5 → (1 ≤ times) × (times ≤ 59) → (d : Device) → KeepsTalk (device_busy count times) d
 busy_talks count times few long (T2 d) = record { aside = λ own a. a; id = refl; selected = refl; linked = refl; peer = λ s l p. p; step = λ i t. t; cut = λ n c. c }
-busy_talks count times few long (T4 d) = record { aside = λ own a. record { rests = a.rests; other = a.other }; id = refl; selected = refl; linked = refl; peer = λ s l p. absurd cc; step = λ i t. t; cut = λ n c. c }
+busy_talks count times few long (T4 d) = record {
+  aside = λ own a. record { rests = a.rests; other = a.other };
+  id = refl;
+  selected = refl;
+  linked = refl;
+  peer = λ s l p. absurd cc;
+  step = λ i t. t;
+  cut = λ n c. c;
+}
 busy_talks count times few long (Peer d) = record {
   aside = λ own a. record { rests = a.rests; other = a.other };
   id = refl;

@@ -100,7 +100,8 @@ use Rattle.std.specs.Prelude.{◌-◌, Bool}
 use Rattle.air_core.proofs.BrokenWaits.{never_light}
 
 -- no answer but that of a link that is open opens one
-plain_so : (s : State) (id : List ℕ) (miu rw : ℕ) (es : List Event) (a : Told_answer) → ((n : ℕ) → a ≡ answers.Linked n → ⊥) → state_after s no_joins (Link id miu rw) es (Some a) ≡ plain_after s (Link id miu rw) es
+plain_so : (s : State) (id : List ℕ) (miu rw : ℕ) (es : List Event) (a : Told_answer) → ((n : ℕ) → a ≡ answers.Linked n → ⊥)
+    → state_after s no_joins (Link id miu rw) es (Some a) ≡ plain_after s (Link id miu rw) es
 plain_so s id miu rw es (answers.Linked n) other = absurd (other n refl)
 plain_so s id miu rw es a other = refl
 
@@ -151,7 +152,8 @@ poll_not_ended faults.NotFound answer is loss ended = cc
 poll_not_ended faults.BadAnswer answer is loss ended = cc
 
 -- How the wait of ATR_REQ stands at each end, and that nothing more is due there.
-opened_ends : (n : ℕ) (ns : List Note) (s : Standing) (p : InitState × ArrayVec ℕ) → AnswersAtr true ns s (Ok p) → TellsStanding (λ a. a ≡ answers.Linked n) TellsLoss s (answers.Linked n) × (due_at s ≡ Over)
+opened_ends : (n : ℕ) (ns : List Note) (s : Standing) (p : InitState × ArrayVec ℕ) → AnswersAtr true ns s (Ok p)
+    → TellsStanding (λ a. a ≡ answers.Linked n) TellsLoss s (answers.Linked n) × (due_at s ≡ Over)
 opened_ends n ns (Asking bad []) p h = (refl, refl)
 opened_ends n ns (Asking bad (c ∷ cs)) p h = absurd cc
 opened_ends n ns (Broken fault cs) p h = absurd cc
@@ -304,7 +306,12 @@ module _ (ends : Ends) (peers : Peers) (old : Air Device) (id : List ℕ) (miu r
             cause = tt;
             ends = tag_ends s.device tag (own_general miu);
             lost = (
-              λ lost. absurd (elim lost [ inl dark ↦ (let clash : answers.WrongKind ≡ answers.FieldLost = dark in cc) | inr ended ↦ (let clash : answers.WrongKind ≡ answers.LinkEnded losses.FieldLost = ended in cc) ]),
+              λ lost. absurd
+                  (elim lost [
+                    | inl dark ↦ (let clash : answers.WrongKind ≡ answers.FieldLost = dark in cc)
+                    | inr ended ↦
+                        (let clash : answers.WrongKind ≡ answers.LinkEnded losses.FieldLost = ended in cc)
+                  ]),
               λ broken. absurd (no_break broken),
             );
             noisy = λ six. absurd (let clash : answers.WrongKind ≡ answers.LinkEnded losses.SixBad = six in cc);
@@ -314,7 +321,8 @@ module _ (ends : Ends) (peers : Peers) (old : Air Device) (id : List ℕ) (miu r
           stays = stable_behind (moment old).world g.events ends none (stores_stay old mid g.events world s.selects.asked.same);
           opens = λ n linked. absurd (let clash : answers.WrongKind ≡ answers.Linked n = linked in cc);
         } in
-        asks_so NoStore os old mid (Link id miu rw) [] hs answers.WrongKind idle places tt may refl g over refl none (plain_so st id miu rw g.events answers.WrongKind (λ n linked. cc)) law s.selects.asked.same
+        asks_so NoStore os old mid (Link id miu rw) [] hs answers.WrongKind idle places tt may refl g over refl none (plain_so st id miu rw g.events answers.WrongKind (λ n linked. cc)) law
+        s.selects.asked.same
 
     abbrev old_at : OldAt old.listeners place s.device
     old_at =
@@ -342,7 +350,8 @@ module _ (ends : Ends) (peers : Peers) (old : Air Device) (id : List ℕ) (miu r
 
       pub fg : FarGoing devices device_linked peer_ends (linking (A id) (own_general miu)) (moment old) (moment new) (hs ++ o.notes) place ends (most far) (most after)
       fg =
-          (opens_far restarts (Answers serving 0) peer_ends most ends_table (ends_step serving) (A id) (own_general miu) place s.device result old mid new far after hs s.selects.asked.going told s.stands peer o ends).0
+          (opens_far restarts (Answers serving 0) peer_ends most ends_table (ends_step serving) (A id) (own_general miu) place s.device result old mid new far after hs s.selects.asked.going told
+          s.stands peer o ends).0
 
       abbrev pub given : Given
       given = record { asked = []; joins = no_joins }
@@ -393,14 +402,16 @@ module _ (ends : Ends) (peers : Peers) (old : Air Device) (id : List ℕ) (miu r
       stays : stable (world_after st no_joins (Link id miu rw) es) ≡ stable st.world
       stays =
           let S : List StablePart → Ends → Stable = λ ds xs. record { devices = ds; ends = xs } in
-          ap stable world ∙ ap (λ ds. S ds (map (rests peer_ends) (shown device_linked peer_ends new.listeners ends_then))) (stores_kept new.listeners ∙ ap (map stable_in) same ∙ sym (stores_kept old.listeners))
+          ap stable world ∙ ap (λ ds. S ds (map (rests peer_ends) (shown device_linked peer_ends new.listeners ends_then)))
+          (stores_kept new.listeners ∙ ap (map stable_in) same ∙ sym (stores_kept old.listeners))
           ∙ ap (S (map stable_of old.listeners)) (set_rests new.listeners ends place far after there keeps_end.rests ∙ rests_alike new.listeners old.listeners ends (sym as_many))
 
       places_at : (p : Peers) (l : Option OpenLink) → p.numbers ≡ peers.numbers → p.gone ≡ peers.gone → HasPlaces (record { air = new; ends = ends_then; peers = p; link = l })
       places_at p l numbers placed = record {
         ends = length-set ends place (Some after) ∙ places.ends ∙ as_many;
         numbers = ap length numbers ∙ places.numbers ∙ as_many;
-        served = subst (λ ps. AreServed new.listeners ps ends_then) (sym numbers) (served_as old.listeners new.listeners peers.numbers ends_then (kinds_of new.listeners old.listeners same) (set_served old.listeners peers.numbers ends place far after there keeps_end places.served));
+        served = subst (λ ps. AreServed new.listeners ps ends_then) (sym numbers) (served_as old.listeners new.listeners peers.numbers ends_then (kinds_of new.listeners old.listeners same)
+            (set_served old.listeners peers.numbers ends place far after there keeps_end places.served));
         apart = subst (λ gs. AreNumbered (length gs) p.numbers) (sym placed) (subst (AreNumbered (next_number peers)) (sym numbers) places.apart);
       }
 
@@ -416,7 +427,8 @@ module _ (ends : Ends) (peers : Peers) (old : Air Device) (id : List ℕ) (miu r
           subst (AllByRecursion IsAnswered) o.speaks.known
           (whole_notes (atr_next (own_general miu)) (λ ns e. never_light (stand 0 (atr_frame (own_general miu) ∷ []) ns) e) [] o.speaks.events o.speaks.each none (o.calm none))
 
-      tells_by : (answer : Told_answer) → (IsFieldLost answer → result ≡ Err causes.FieldLost) → (result ≡ Err causes.FieldLost → IsFieldLost answer) → (answer ≡ answers.LinkEnded losses.SixBad → result ≡ Err causes.SixBad)
+      tells_by : (answer : Told_answer) → (IsFieldLost answer → result ≡ Err causes.FieldLost) → (result ≡ Err causes.FieldLost → IsFieldLost answer)
+          → (answer ≡ answers.LinkEnded losses.SixBad → result ≡ Err causes.SixBad)
           → TellsStanding (λ a. a ≡ answers.Linked count) TellsLoss (stand 0 (atr_frame (own_general miu) ∷ []) o.notes) answer → LinkTells (A id) old.listeners count (own_general miu) es answer
       tells_by answer lost by six e =
           let first : List Event = s.selects.asked.going.events in
@@ -437,10 +449,12 @@ module _ (ends : Ends) (peers : Peers) (old : Air Device) (id : List ℕ) (miu r
       abbrev Begins : OpenLink → Type 0
       Begins l = BeginsAt l (own_general miu) peers.numbers st.world.fars (world_after st no_joins (Link id miu rw) es).fars
 
-      obeyed_at : (answer : Told_answer) (p : Peers) (l : Option OpenLink) → p ≡ peers_after st no_joins (Link id miu rw) es (Some answer) → l ≡ link_after st no_joins (Link id miu rw) es (Some answer)
+      obeyed_at : (answer : Told_answer) (p : Peers) (l : Option OpenLink) → p ≡ peers_after st no_joins (Link id miu rw) es (Some answer)
+          → l ≡ link_after st no_joins (Link id miu rw) es (Some answer)
           → p.numbers ≡ peers.numbers → p.gone ≡ peers.gone → LinkTells (A id) old.listeners count (own_general miu) es answer → due_at (stand 0 (atr_frame (own_general miu) ∷ []) o.notes) ≡ Over
           → IfLinked (link_after st no_joins (Link id miu rw) es (Some answer)) Begins (Unit {0}) → ((n : ℕ) → answer ≡ answers.Linked n → IsSome l)
-          → KeepsLink (record { air = new; ends = ends_then; peers = p; link = l }) → Obeyed (under ends peers None old) (record { air = new; ends = ends_then; peers = p; link = l }) (Link id miu rw) answer
+          → KeepsLink (record { air = new; ends = ends_then; peers = p; link = l }) → Obeyed (under ends peers None old) (record { air = new; ends = ends_then; peers = p; link = l }) (Link id miu rw)
+          answer
       obeyed_at answer p l peers_so link_so numbers placed tells done begins opens keeps =
           let N : Machines = record { air = new; ends = ends_then; peers = p; link = l } in
           let F : List Event → Type 0 = λ xs. FrontOf st given (Link id miu rw) xs (Some answer) (state_at N) in
@@ -469,7 +483,8 @@ module _ (ends : Ends) (peers : Peers) (old : Air Device) (id : List ℕ) (miu r
           let P : _ → Type 0 = λ x. Obeyed (under ends peers None old) (record { air = new; ends = ends_then; peers = peers; link = None }) (Link id miu rw) (answers.LinkEnded x) in
           subst P (sym same_loss)
           (obeyed_at (answers.LinkEnded losses.FieldLost) peers None refl refl refl refl
-          (tells_by (answers.LinkEnded losses.FieldLost) (λ l. is) (λ r. inr refl) (λ six. absurd (let clash : answers.LinkEnded losses.FieldLost ≡ answers.LinkEnded losses.SixBad = six in cc)) e.0) e.1 tt (λ n linked. absurd (let clash : answers.LinkEnded losses.FieldLost ≡ answers.Linked n = linked in cc)) tt)
+          (tells_by (answers.LinkEnded losses.FieldLost) (λ l. is) (λ r. inr refl) (λ six. absurd (let clash : answers.LinkEnded losses.FieldLost ≡ answers.LinkEnded losses.SixBad = six in cc)) e.0)
+          e.1 tt (λ n linked. absurd (let clash : answers.LinkEnded losses.FieldLost ≡ answers.Linked n = linked in cc)) tt)
       ended_link causes.SixBad loss is answer =
           let same : ◌≡◌ {A = Result Told_answer ObeyFault} (Ok (answers.LinkEnded loss)) (Ok (answers.LinkEnded losses.SixBad)) = answer in
           let same_loss : loss ≡ losses.SixBad = cc in
@@ -478,8 +493,14 @@ module _ (ends : Ends) (peers : Peers) (old : Air Device) (id : List ℕ) (miu r
           subst P (sym same_loss)
           (obeyed_at (answers.LinkEnded losses.SixBad) peers None refl refl refl refl
           (tells_by (answers.LinkEnded losses.SixBad)
-          (λ l. absurd (elim l [ inl dark ↦ (let clash : answers.LinkEnded losses.SixBad ≡ answers.FieldLost = dark in cc) | inr ended ↦ (let clash : answers.LinkEnded losses.SixBad ≡ answers.LinkEnded losses.FieldLost = ended in cc) ]))
-          (λ r. absurd (let clash : ◌≡◌ {A = Result (InitState × ArrayVec ℕ) EndCause} (Err causes.SixBad) (Err causes.FieldLost) = sym is ∙ r in cc)) (λ six. is) e.0) e.1 tt (λ n linked. absurd (let clash : answers.LinkEnded losses.SixBad ≡ answers.Linked n = linked in cc)) tt)
+          (λ l. absurd
+          (elim l [
+            | inl dark ↦ (let clash : answers.LinkEnded losses.SixBad ≡ answers.FieldLost = dark in cc)
+            | inr ended ↦
+                (let clash : answers.LinkEnded losses.SixBad ≡ answers.LinkEnded losses.FieldLost = ended in cc)
+          ]))
+          (λ r. absurd (let clash : ◌≡◌ {A = Result (InitState × ArrayVec ℕ) EndCause} (Err causes.SixBad) (Err causes.FieldLost) = sym is ∙ r in cc)) (λ six. is) e.0) e.1 tt
+          (λ n linked. absurd (let clash : answers.LinkEnded losses.SixBad ≡ answers.Linked n = linked in cc)) tt)
       ended_link causes.Protocol loss is answer = absurd answer
       ended_link causes.Memory loss is answer = absurd (let clash : ◌≡◌ {A = Result Told_answer ObeyFault} (Ok (answers.LinkEnded loss)) (Err obey_faults.Memory) = answer in cc)
 
@@ -505,7 +526,8 @@ module _ (ends : Ends) (peers : Peers) (old : Air Device) (id : List ℕ) (miu r
         under_id : placed_under id old.listeners peers.numbers ≡ Some n
         under_id =
             let many : length peers.numbers ≡ length (stands.before ++ stands.device ∷ stands.behind) = places.numbers ∙ ap length stands.split in
-            ap (λ ls. placed_under id ls peers.numbers) stands.split ∙ under_at stands.before stands.device stands.behind id peers.numbers stands.named sound many ∙ ap (λ k. get_or peers.numbers k None) stands.at ∙ numbered
+            ap (λ ls. placed_under id ls peers.numbers) stands.split ∙ under_at stands.before stands.device stands.behind id peers.numbers stands.named sound many
+            ∙ ap (λ k. get_or peers.numbers k None) stands.at ∙ numbered
 
         with_id : device_with id old.listeners ≡ Some stands.device
         with_id = has_id old (A id) place idle stands
@@ -577,7 +599,8 @@ module _ (ends : Ends) (peers : Peers) (old : Air Device) (id : List ℕ) (miu r
 
         pub opened_link : Obeyed (under ends peers None old) (record { air = new; ends = ends_then; peers = with_link range peers; link = Some link_now }) (Link id miu rw) (answers.Linked count)
         opened_link =
-            let e = opened_ends count o.notes (stand 0 (atr_frame (own_general miu) ∷ []) o.notes) p (subst (AnswersAtr true o.notes (stand 0 (atr_frame (own_general miu) ∷ []) o.notes)) is o.answers) in
+            let e = opened_ends count o.notes (stand 0 (atr_frame (own_general miu) ∷ []) o.notes) p
+            (subst (AnswersAtr true o.notes (stand 0 (atr_frame (own_general miu) ∷ []) o.notes)) is o.answers) in
             let stands_open : IsOpen new ends_then (with_link range peers) link_now = record {
               place = place;
               number = first_at;
@@ -589,6 +612,12 @@ module _ (ends : Ends) (peers : Peers) (old : Air Device) (id : List ℕ) (miu r
             } in
             obeyed_at (answers.Linked count) (with_link range peers) (Some link_now) peers_so link_so refl refl
             (tells_by (answers.Linked count)
-            (λ l. absurd (elim l [ inl dark ↦ (let clash : answers.Linked count ≡ answers.FieldLost = dark in cc) | inr ended ↦ (let clash : answers.Linked count ≡ answers.LinkEnded losses.FieldLost = ended in cc) ]))
+            (λ l. absurd
+            (elim l [
+              | inl dark ↦ (let clash : answers.Linked count ≡ answers.FieldLost = dark in cc)
+              | inr ended ↦
+                  (let clash : answers.Linked count ≡ answers.LinkEnded losses.FieldLost = ended in cc)
+            ]))
             (λ r. absurd (let clash : ◌≡◌ {A = Result (InitState × ArrayVec ℕ) EndCause} (Ok p) (Err causes.FieldLost) = sym is ∙ r in cc))
-            (λ six. absurd (let clash : answers.Linked count ≡ answers.LinkEnded losses.SixBad = six in cc)) e.0) e.1 (subst (λ x. IfLinked x Begins (Unit {0})) link_so begins_now) (λ n linked. refl) stands_open
+            (λ six. absurd (let clash : answers.Linked count ≡ answers.LinkEnded losses.SixBad = six in cc)) e.0) e.1 (subst (λ x. IfLinked x Begins (Unit {0})) link_so begins_now) (λ n linked. refl)
+            stands_open

@@ -44,7 +44,8 @@ use Rattle.bench_world.specs.Calls.{IsTold, OfEnd, link_behind, slots_behind, st
 use Rattle.bench_world.specs.Links.{OpenLink, accepted_by, end_numbered, ended, ended_unless, with_last_ended}
 use Rattle.bench_world.specs.Arriving.{ArrivesAt, ArrivesCutAt}
 use Rattle.bench_world.specs.Asked.{IsOnLink}
-use Rattle.bench_world.specs.Legal.{State, Given, Joins, Accepts, AnswerLaw, Came, CutCame, CutFront, CutStores, FrontOf, IsAskedBy, LeavesStable, world_at_start, changed, due, peer_end_of, joins_for, link_after, peers_after, state_after, world_after}
+use Rattle.bench_world.specs.Legal.{State, Given, Joins, Accepts, AnswerLaw, Came, CutCame, CutFront, CutStores, FrontOf, IsAskedBy, LeavesStable, world_at_start, changed, due, peer_end_of, joins_for}
+use Rattle.bench_world.specs.Legal.{link_after, peers_after, state_after, world_after}
 use Rattle.bench_world.specs.Halting.{HaltAdds, HaltLeaves, PeerHalts}
 use Rattle.bench_world.specs.Obeying.{Machines, HasPlaces, IsSettled, KeepsLink, ObeyedBy, linked_at, state_at, under}
 use Rattle.bench_world.specs.Opened.{AreNumbered, AreServed}
@@ -52,7 +53,8 @@ use Rattle.bench_world.specs.Peers.{Peers, next_number}
 use Rattle.bench_world.proofs.link_law.Arrived.{GoesOn, came_at, cut_at, same_accepted}
 use Rattle.bench_world.proofs.open_link.CallNotes.{IsPlainNext, call_broken, call_lost, calls_plain}
 use Rattle.bench_world.proofs.calm.Quiet.{no_breaks}
-use Rattle.bench_world.proofs.open_link.OnLink.{Ends as FarEnds, accepted_now, accepted_there, as_many, bare, bare_alike, bare_more, devices_stay, end_is, end_shown, ends_more, ends_same, going, kept_long, leaves, now, opened, own, queue_is, served, set_long, tame, trace_is, world_is}
+use Rattle.bench_world.proofs.open_link.OnLink.{Ends as FarEnds, accepted_now, accepted_there, as_many, bare, bare_alike, bare_more, devices_stay, end_is, end_shown, ends_more, ends_same, going}
+use Rattle.bench_world.proofs.open_link.OnLink.{kept_long, leaves, now, opened, own, queue_is, served, set_long, tame, trace_is, world_is}
 use Rattle.bench_world.proofs.open_link.Restarted.{set_there}
 
 -- what a step of a call is said for
@@ -73,7 +75,8 @@ module _ (air : Air Device) (ends : FarEnds) (peers : Peers) (l : OpenLink) (set
   -- turns that were due, and where the command has its numbers
   module _ (next : List Note → Next) (plain : (ns : List Note) → IsPlainNext (next ns)) (c : Command) (joins : Joins) (b : Air Device) (after : Choosing FarEnd) (notes : List Note)
       (g : FarGoing devices device_linked peer_ends next (moment air) (moment b) notes place ends (record { end = end; numbers = joins.far }) after)
-      (still : changed from_state c ≡ from_state) (accepts : Accepts from_state c) (asks : IsAskedBy from_state c []) (takes : joins ≡ joins_for c joins) (same : (ns : List Note) → due from_state (given_by joins) c ns ≡ next ns) where
+      (still : changed from_state c ≡ from_state) (accepts : Accepts from_state c) (asks : IsAskedBy from_state c []) (takes : joins ≡ joins_for c joins)
+      (same : (ns : List Note) → due from_state (given_by joins) c ns ≡ next ns) where
     abbrev pub given : Given
     given = given_by joins
 
@@ -106,7 +109,8 @@ module _ (air : Air Device) (ends : FarEnds) (peers : Peers) (l : OpenLink) (set
     front told link ps link_is peers_is =
         let S : WholeWorld → List Fate → Peers → Option OpenLink → State = λ w q p o. record { world = w; queue = q; peers = p; link = o } in
         let w : WholeWorld = world_after from_state given.joins c es in
-        let q : b.fates ≡ queue_after (changed from_state c).queue es = queue_is air ends peers l settled next plain b joins.far after notes g ∙ ap (λ (s : State). queue_after s.queue es) (sym still) in
+        let q : b.fates ≡ queue_after (changed from_state c).queue es = queue_is air ends peers l settled next plain b joins.far after notes g
+        ∙ ap (λ (s : State). queue_after s.queue es) (sym still) in
         let f : FrontOf from_state given c es told (state_at (to link ps)) = record {
           accepted = accepts;
           asks = asks;
@@ -145,7 +149,8 @@ module _ (air : Air Device) (ends : FarEnds) (peers : Peers) (l : OpenLink) (set
         ∙ ap (S (map stable_of air.listeners)) (ends_same air ends peers l settled next plain b joins.far after notes g set e)
         ∙ ap (λ (s : State). stable s.world) (sym still)
 
-    pub obeyed : (answer : Answer) (link : Option OpenLink) (ps : Peers) → next notes ≡ Over → link_after from_state given.joins c es (Some answer) ≡ link → peers_after from_state given.joins c es (Some answer) ≡ ps
+    pub obeyed : (answer : Answer) (link : Option OpenLink) (ps : Peers) → next notes ≡ Over → link_after from_state given.joins c es (Some answer) ≡ link
+        → peers_after from_state given.joins c es (Some answer) ≡ ps
         → AnswerLaw from_state given c es answer → setting_of after.end ≡ setting_of end → ps.numbers ≡ peers.numbers → ps.gone ≡ peers.gone → KeepsLink (to link ps)
         → ObeyedBy joins (under ends peers (Some l) air) (to link ps) c answer
     obeyed answer link ps over link_is peers_is law set numbered placed keeps =
@@ -168,7 +173,8 @@ module _ (air : Air Device) (ends : FarEnds) (peers : Peers) (l : OpenLink) (set
         (given, refl, front None link ps link_is peers_is, subst (CutStores from_state given.joins c) (sym (trace_is air ends peers l settled next plain b joins.far after notes g)) stores)
 
     -- The request behind passed, and the far end stopped as it was handed this payload.
-    module _ (sent : Signal) (payload : List ℕ) (listeners : List Device) (d : Air Device) (asked : next notes ≡ Asks sent) (passed : first_fate b.fates ≡ Pass) (heard : HeardUpTo devices sent payload b.listeners listeners)
+    module _ (sent : Signal) (payload : List ℕ) (listeners : List Device) (d : Air Device) (asked : next notes ≡ Asks sent) (passed : first_fate b.fates ≡ Pass)
+        (heard : HeardUpTo devices sent payload b.listeners listeners)
         (left : d ≡ after_event b (Request sent Pass) (later_fates b.fates) (record { lit = true; listeners = listeners })) where
       abbrev all : List Event
       all = es ++ Request sent Pass ∷ []
@@ -214,7 +220,8 @@ module _ (air : Air Device) (ends : FarEnds) (peers : Peers) (l : OpenLink) (set
           adds = fits;
           ends =
               bare_alike d.listeners air.listeners ends_left long
-              ∙ bare_more l.peer place peers.numbers air.listeners ends end stopped more (opened air ends peers l settled).number settled.places.numbers (opened air ends peers l settled).above set adds;
+              ∙ bare_more l.peer place peers.numbers air.listeners ends end stopped more (opened air ends peers l settled).number settled.places.numbers (opened air ends peers l settled).above set
+              adds;
           peers = ap (λ n. with_last_ended n peers) (sym range);
           link = refl;
         }
@@ -229,7 +236,8 @@ module _ (air : Air Device) (ends : FarEnds) (peers : Peers) (l : OpenLink) (set
               new = C stopped counts;
               arrives = subst (λ xs. ArrivesCut l.initiator.core.number xs (C end joins.far) (C stopped counts)) none came;
               accepted = subst (OfEnd (λ e. e.service.accepted ≡ stopped.service.accepted))
-                  (sym (end_shown l.peer place peers.numbers d.listeners ends_left stopped (opened air ends peers l settled).number (settled.places.numbers ∙ sym long) there)) (same_accepted (linked_at place d.listeners) stopped);
+                  (sym (end_shown l.peer place peers.numbers d.listeners ends_left stopped (opened air ends peers l settled).number (settled.places.numbers ∙ sym long) there))
+                  (same_accepted (linked_at place d.listeners) stopped);
             }
 
         pub halted : PeerHalts joins from_state c d.trace (state_at halted_then)
@@ -292,7 +300,8 @@ module _ (air : Air Device) (ends : FarEnds) (peers : Peers) (l : OpenLink) (set
     gone_then = under (slice_set ends place (Some after.end)) (with_last_ended (accepted_by (get_or (slice_set ends place (Some after.end)) place None)) peers) None b
 
     -- turns of the call up to where it stands so
-    module _ (joins : Joins) (standing : CallStanding) (t : CallTurns ghosts device_end device_linked peer_ends joins.own step l.initiator air b place ends (record { end = end; numbers = joins.far }) after standing) where
+    module _ (joins : Joins) (standing : CallStanding) (t : CallTurns ghosts device_end device_linked peer_ends joins.own step l.initiator air b place ends (record { end = end; numbers = joins.far })
+        after standing) where
       abbrev pub next : List Note → Next
       next = call_due joins.own step l.initiator
 
@@ -318,15 +327,18 @@ module _ (air : Air Device) (ends : FarEnds) (peers : Peers) (l : OpenLink) (set
       -- what arrived, where this link is open then
       abbrev pub Arrived : Option OpenLink → Type 0
       Arrived link =
-          Arrives l.initiator.core.number (drop (length air.trace) b.trace) (record { end = end; numbers = joins.far }) after × GoesOn air ends peers l settled next plain b joins.far after t.notes t.going link
+          Arrives l.initiator.core.number (drop (length air.trace) b.trace) (record { end = end; numbers = joins.far }) after
+          × GoesOn air ends peers l settled next plain b joins.far after t.notes t.going link
 
       came_then : (answer : Answer) (link : Option OpenLink) → link_after from_state joins c events (Some answer) ≡ link → Arrived link → Came from_state joins l c events answer
       came_then answer link link_is arrived =
           let w : WholeWorld = world_after from_state joins c events in
           subst (ArrivesAt l peers.numbers joins.far from_state.world.fars w.fars events) (sym link_is)
-          (came_at air ends peers l settled next plain b joins.far after t.notes t.going w (world_then next plain c joins b after t.notes t.going is.still is.accepts is.asks (is.takes joins) same) link arrived.0 arrived.1)
+          (came_at air ends peers l settled next plain b joins.far after t.notes t.going w (world_then next plain c joins b after t.notes t.going is.still is.accepts is.asks (is.takes joins) same)
+          link arrived.0 arrived.1)
 
-      facts : setting_of after.end ≡ setting_of end → (answer : Answer) → IsTold (told_call call (stands_on l joins.own call events)) events answer → Came from_state joins l c events answer → Facts joins events answer
+      facts : setting_of after.end ≡ setting_of end → (answer : Answer) → IsTold (told_call call (stands_on l joins.own call events)) events answer → Came from_state joins l c events answer
+          → Facts joins events answer
       facts set answer told came = record {
         told = told;
         came = came;
@@ -351,8 +363,10 @@ module _ (air : Air Device) (ends : FarEnds) (peers : Peers) (l : OpenLink) (set
       over_at : call_due_at standing ≡ Over → next t.notes ≡ Over
       over_at e = ap call_due_at t.stands ∙ e
 
-      pub came : setting_of after.end ≡ setting_of end → (jobs : List OnSap) (client : EndState) → standing ≡ Comes (Ends jobs client) j → (answer : Answer) → told_step call (Ends jobs client) ≡ Some answer
-          → ((loss : Loss) → answer ≡ answers.LinkEnded loss → ⊥) → (noise events ≡ 0 → bad_receptions events ≡ 0) → Law answer → Arrived (Some (link_then jobs client)) → KeepsLink (open_then jobs client)
+      pub came : setting_of after.end ≡ setting_of end → (jobs : List OnSap) (client : EndState) → standing ≡ Comes (Ends jobs client) j → (answer : Answer)
+          → told_step call (Ends jobs client) ≡ Some answer
+          → ((loss : Loss) → answer ≡ answers.LinkEnded loss → ⊥) → (noise events ≡ 0 → bad_receptions events ≡ 0) → Law answer → Arrived (Some (link_then jobs client))
+          → KeepsLink (open_then jobs client)
           → ObeyedBy joins (under ends peers (Some l) air) (open_then jobs client) c answer
       came set jobs client comes answer told never calm law arrived keeps =
           let link_is : link_after from_state joins c events (Some answer) ≡ Some (link_then jobs client) =
@@ -361,14 +375,16 @@ module _ (air : Air Device) (ends : FarEnds) (peers : Peers) (l : OpenLink) (set
           (over_at (ap call_due_at comes)) link_is
           (is.peers_on joins events (Some answer) ∙ ap (λ o. ended_unless o (Some l) (world_after from_state joins c events).fars peers) link_is)
           (law joins events (facts set answer (told_so answer (ap (told_call call) comes ∙ told)
-          ((λ e. absurd (let clash : Comes (Ends jobs client) j ≡ BrokenBy cause.FieldLost = sym comes ∙ e in cc)), (λ e. absurd (never losses.FieldLost e))) (λ e. absurd (never losses.SixBad e)) calm)
+          ((λ e. absurd (let clash : Comes (Ends jobs client) j ≡ BrokenBy cause.FieldLost = sym comes ∙ e in cc)), (λ e. absurd (never losses.FieldLost e))) (λ e. absurd (never losses.SixBad e))
+          calm)
           (came_then answer (Some (link_then jobs client)) link_is arrived)))
           set refl refl keeps
 
       -- a link that ended so had noise
       broken_noisy : (why : EndCause) → standing ≡ BrokenBy why → (answer : Answer) → told_loss why ≡ Some answer → (answer ≡ answers.LinkEnded losses.SixBad → 0 < noise events) → noise events ≡ 0 → ⊥
       broken_noisy cause.FieldLost broken answer told noisy none =
-          let some : 0 < breaks events = call_broken bench_air joins.own step l.initiator _ _ t.notes (going air ends peers l settled next plain b joins.far after t.notes t.going) (t.stands ∙ broken) in
+          let some : 0 < breaks events = call_broken bench_air joins.own step l.initiator _ _ t.notes (going air ends peers l settled next plain b joins.far after t.notes t.going)
+          (t.stands ∙ broken) in
           let lit : breaks events ≡ 0 = no_breaks events none in
           omega (arith, some, lit)
       broken_noisy cause.SixBad broken answer told noisy none =
@@ -386,7 +402,8 @@ module _ (air : Air Device) (ends : FarEnds) (peers : Peers) (l : OpenLink) (set
           (with_last_ended (accepted_by (get_or (slice_set ends place (Some after.end)) place None)) peers)
           (over_at (ap call_due_at broken)) link_is (gone_peers (Some answer) link_is)
           (law joins events (facts set answer (told_so answer (ap (told_call call) broken ∙ told)
-          ((λ e. lost.0 (let same : BrokenBy why ≡ BrokenBy cause.FieldLost = sym broken ∙ e in cc)), (λ e. broken ∙ ap BrokenBy (lost.1 e))) noisy (λ none. absurd (broken_noisy why broken answer told noisy none)))
+          ((λ e. lost.0 (let same : BrokenBy why ≡ BrokenBy cause.FieldLost = sym broken ∙ e in cc)), (λ e. broken ∙ ap BrokenBy (lost.1 e))) noisy
+          (λ none. absurd (broken_noisy why broken answer told noisy none)))
           (came_then answer None link_is arrived)))
           set refl refl tt
 
@@ -394,11 +411,14 @@ module _ (air : Air Device) (ends : FarEnds) (peers : Peers) (l : OpenLink) (set
           → (adds : (more : List Received) → after.end.service.accepted ≡ end.service.accepted ++ more
           → (stable (world_after from_state joins c events)).ends ≡ with_accepted more l.peer peers.numbers (stable from_state.world).ends)
           → (stays : after.end.service.accepted ≡ end.service.accepted → LeavesStable from_state joins c events) → (came : CutCame from_state joins l c events) → CutStores from_state joins c events)
-          → setting_of after.end ≡ setting_of end → ArrivesCut l.initiator.core.number (drop (length air.trace) b.trace) (record { end = end; numbers = joins.far }) after → CutFront joins from_state c b.trace (state_at gone_then)
+          → setting_of after.end ≡ setting_of end → ArrivesCut l.initiator.core.number (drop (length air.trace) b.trace) (record { end = end; numbers = joins.far }) after
+          → CutFront joins from_state c b.trace (state_at gone_then)
       short stores set arrived =
-          cut_off next plain c joins b after t.notes t.going is.still is.accepts is.asks (is.takes joins) same None (with_last_ended (accepted_by (get_or (slice_set ends place (Some after.end)) place None)) peers)
+          cut_off next plain c joins b after t.notes t.going is.still is.accepts is.asks (is.takes joins) same None
+          (with_last_ended (accepted_by (get_or (slice_set ends place (Some after.end)) place None)) peers)
           (is.link_off joins events) (gone_peers None (is.link_off joins events))
           (stores joins events (devices_then next plain c joins b after t.notes t.going is.still is.accepts is.asks (is.takes joins) same)
           (λ more e. ends_then next plain c joins b after t.notes t.going is.still is.accepts is.asks (is.takes joins) same more set e)
           (λ e. stays_then next plain c joins b after t.notes t.going is.still is.accepts is.asks (is.takes joins) same set e)
-          (cut_at air ends peers l settled next plain b joins.far after t.notes t.going (world_after from_state joins c events) (world_then next plain c joins b after t.notes t.going is.still is.accepts is.asks (is.takes joins) same) arrived))
+          (cut_at air ends peers l settled next plain b joins.far after t.notes t.going (world_after from_state joins c events)
+          (world_then next plain c joins b after t.notes t.going is.still is.accepts is.asks (is.takes joins) same) arrived))

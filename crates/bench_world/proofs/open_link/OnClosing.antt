@@ -84,12 +84,14 @@ module _ (air : Air Device) (ends : FarEnds) (peers : Peers) (l : OpenLink) (set
     stand_is : stands_closing l joins.own events ≡ standing
     stand_is = ap (closing_stand joins.own from l.initiator) (going air ends peers l settled next plain b joins.far after t.notes t.going).known ∙ t.stands
 
-    gone_peers : (told : Option Answer) → peers_after (from_state air ends peers l settled) joins Unlink events told ≡ with_last_ended (accepted_by (get_or (slice_set ends spot (Some after.end)) spot None)) peers
+    gone_peers : (told : Option Answer) → peers_after (from_state air ends peers l settled) joins Unlink events told
+        ≡ with_last_ended (accepted_by (get_or (slice_set ends spot (Some after.end)) spot None)) peers
     gone_peers told =
         ap (λ (w : WholeWorld). ended (Some l) w.fars peers) (sym (world_then air ends peers l settled next plain Unlink joins b after t.notes t.going refl tt refl refl same))
         ∙ ap (λ n. with_last_ended n peers) (accepted_now air ends peers l settled next plain b joins.far after t.notes t.going)
 
-    pub closed : setting_of after.end ≡ setting_of far → after.end.service.accepted ≡ far.service.accepted → Arrives l.initiator.core.number (drop (length air.trace) b.trace) counted after → (answer : Answer)
+    pub closed : setting_of after.end ≡ setting_of far → after.end.service.accepted ≡ far.service.accepted → Arrives l.initiator.core.number (drop (length air.trace) b.trace) counted after
+        → (answer : Answer)
         → told_closing standing ≡ Some answer → closing_due_at standing ≡ Over
         → ((standing ≡ Calls (BrokenBy cause.FieldLost)) ↔ (answer ≡ answers.LinkEnded losses.FieldLost)) → (answer ≡ answers.LinkEnded losses.SixBad → 0 < noise events)
         → (noise events ≡ 0 → bad_receptions events ≡ 0) → ObeyedBy joins (under ends peers (Some l) air) gone Unlink answer
@@ -116,7 +118,8 @@ module _ (air : Air Device) (ends : FarEnds) (peers : Peers) (l : OpenLink) (set
           ends = ends_then air ends peers l settled next plain Unlink joins b after t.notes t.going refl tt refl refl same [] set (accepted ∙ sym (append-nil far.service.accepted));
         }) set refl refl tt
 
-    pub closing_cut : setting_of after.end ≡ setting_of far → after.end.service.accepted ≡ far.service.accepted → ArrivesCut l.initiator.core.number (drop (length air.trace) b.trace) counted after → CutFront joins (from_state air ends peers l settled) Unlink b.trace (state_at gone)
+    pub closing_cut : setting_of after.end ≡ setting_of far → after.end.service.accepted ≡ far.service.accepted → ArrivesCut l.initiator.core.number (drop (length air.trace) b.trace) counted after
+        → CutFront joins (from_state air ends peers l settled) Unlink b.trace (state_at gone)
     closing_cut set accepted arrives =
         cut_off air ends peers l settled next plain Unlink joins b after t.notes t.going refl tt refl refl same None
         (with_last_ended (accepted_by (get_or (slice_set ends spot (Some after.end)) spot None)) peers) refl (gone_peers None)
@@ -145,7 +148,8 @@ module _ (air : Air Device) (ends : FarEnds) (peers : Peers) (l : OpenLink) (set
     sent_calm {heard} s =
         calm_then air s.mid b (made_calm joins.own from s.to air s.mid l.initiator s.rest counted s.half s.made) (release_calm quiet s.mid b spot s.rest (in_step_then s) s.half after heard s.turn)
 
-    pub released : (to : Step) → IsReleased ghosts device_end joins.own from air l.initiator counted b after to → IsClosed far client after.end → ObeyedBy joins (under ends peers (Some l) air) gone Unlink answers.Unlinked
+    pub released : (to : Step) → IsReleased ghosts device_end joins.own from air l.initiator counted b after to → IsClosed far client after.end
+        → ObeyedBy joins (under ends peers (Some l) air) gone Unlink answers.Unlinked
     released to r c =
         let t = r.turns device_linked devices_link spot (stands air ends peers l settled) ends in
         closed (Released to) t (sent_set r.sent) (ap (λ (s : ServerState). s.accepted) c.aside.service) (r.sent.arrives quiet) answers.Unlinked refl refl
@@ -166,18 +170,21 @@ module _ (air : Air Device) (ends : FarEnds) (peers : Peers) (l : OpenLink) (set
     ]
 
     -- a link that ended so had noise
-    lost_noisy : (w : EndCause) (t : ClosingTurns ghosts device_linked peer_ends joins.own from l.initiator air b spot ends counted after (Calls (BrokenBy w))) (answer : Answer) → told_loss w ≡ Some answer
+    lost_noisy : (w : EndCause) (t : ClosingTurns ghosts device_linked peer_ends joins.own from l.initiator air b spot ends counted after (Calls (BrokenBy w))) (answer : Answer)
+        → told_loss w ≡ Some answer
         → (w ≡ cause.SixBad → 0 < noise (events (Calls (BrokenBy w)) t)) → noise (events (Calls (BrokenBy w)) t) ≡ 0 → ⊥
     lost_noisy cause.FieldLost t answer told noisy none =
         let s = Calls (BrokenBy cause.FieldLost) in
-        let some : 0 < breaks (events s t) = closing_broken bench_air joins.own from l.initiator _ _ t.notes (going air ends peers l settled (next s t) (plain s t) b joins.far after t.notes t.going) t.stands in
+        let some : 0 < breaks (events s t) = closing_broken bench_air joins.own from l.initiator _ _ t.notes (going air ends peers l settled (next s t) (plain s t) b joins.far after t.notes t.going)
+        t.stands in
         let lit : breaks (events s t) ≡ 0 = no_breaks (events s t) none in
         omega (arith, some, lit)
     lost_noisy cause.SixBad t answer told noisy none = let some = noisy refl in omega (arith, some, none)
     lost_noisy cause.Protocol t answer told noisy none = cc
     lost_noisy cause.Memory t answer told noisy none = cc
 
-    pub lost : (w : EndCause) (answer : Answer) → IsLost ghosts device_end joins.own from air l.initiator counted b after j w → told_loss w ≡ Some answer → after.end.service.accepted ≡ far.service.accepted
+    pub lost : (w : EndCause) (answer : Answer) → IsLost ghosts device_end joins.own from air l.initiator counted b after j w → told_loss w ≡ Some answer
+        → after.end.service.accepted ≡ far.service.accepted
         → ObeyedBy joins (under ends peers (Some l) air) gone Unlink answer
     lost w answer x told accepted =
         let t = x.turns device_linked devices_link spot (stands air ends peers l settled) ends in
@@ -185,21 +192,27 @@ module _ (air : Air Device) (ends : FarEnds) (peers : Peers) (l : OpenLink) (set
         let noisy : w ≡ cause.SixBad → 0 < noise es = λ six.
         subst (λ xs. 0 < noise xs) (ap (λ xs. drop (length xs) b.trace) settled.idle.quiet
         ∙ trace_is air ends peers l settled (next (Calls (BrokenBy w)) t) (plain (Calls (BrokenBy w)) t) b joins.far after t.notes t.going) (x.noisy six) in
-        closed (Calls (BrokenBy w)) t (lost_set w x) accepted (lost_arrives w x) answer told refl (lost_is w told) (λ e. noisy (six_is w told e)) (λ none. absurd (lost_noisy w t answer told noisy none))
+        closed (Calls (BrokenBy w)) t (lost_set w x) accepted (lost_arrives w x) answer told refl (lost_is w told) (λ e. noisy (six_is w told e))
+        (λ none. absurd (lost_noisy w t answer told noisy none))
       where
         lost_is : (w : EndCause) → told_loss w ≡ Some answer → ((Calls (BrokenBy w) ≡ Calls (BrokenBy cause.FieldLost)) ↔ (answer ≡ answers.LinkEnded losses.FieldLost))
         lost_is cause.FieldLost e = ((λ q. let same : answers.LinkEnded losses.FieldLost ≡ answer = cc in sym same), (λ q. refl))
-        lost_is cause.SixBad e = ((λ q. absurd cc), (λ q. absurd (let same : answers.LinkEnded losses.SixBad ≡ answer = cc in let clash : answers.LinkEnded losses.SixBad ≡ answers.LinkEnded losses.FieldLost = same ∙ q in cc)))
+        lost_is cause.SixBad e = (
+          (λ q. absurd cc),
+          (λ q. absurd (let same : answers.LinkEnded losses.SixBad ≡ answer = cc in let clash : answers.LinkEnded losses.SixBad ≡ answers.LinkEnded losses.FieldLost = same ∙ q in cc)),
+        )
         lost_is cause.Protocol e = absurd cc
         lost_is cause.Memory e = absurd cc
 
         six_is : (w : EndCause) → told_loss w ≡ Some answer → answer ≡ answers.LinkEnded losses.SixBad → w ≡ cause.SixBad
-        six_is cause.FieldLost e q = absurd (let same : answers.LinkEnded losses.FieldLost ≡ answer = cc in let clash : answers.LinkEnded losses.FieldLost ≡ answers.LinkEnded losses.SixBad = same ∙ q in cc)
+        six_is cause.FieldLost e q = absurd (let same : answers.LinkEnded losses.FieldLost ≡ answer = cc in
+            let clash : answers.LinkEnded losses.FieldLost ≡ answers.LinkEnded losses.SixBad = same ∙ q in cc)
         six_is cause.SixBad e q = refl
         six_is cause.Protocol e q = absurd cc
         six_is cause.Memory e q = absurd cc
 
-    pub short : IsClosingShort ghosts device_end joins.own from air l.initiator counted b after → after.end.service.accepted ≡ far.service.accepted → IsCutOffBy joins (under ends peers (Some l) air) gone Unlink
+    pub short : IsClosingShort ghosts device_end joins.own from air l.initiator counted b after → after.end.service.accepted ≡ far.service.accepted
+        → IsCutOffBy joins (under ends peers (Some l) air) gone Unlink
     short s accepted = inr (by_left (s.front device_linked devices_link spot (stands air ends peers l settled) ends))
       where
         by_left : ClosingFront ghosts device_linked peer_ends device_end (StopsCounted serving) joins.own from l.initiator air b spot ends counted after
@@ -211,8 +224,10 @@ module _ (air : Air Device) (ends : FarEnds) (peers : Peers) (l : OpenLink) (set
               closing_cut f.standing t (s.setting quiet) accepted (s.arrives quiet))
           | inr (inl h) ↦ inr (inl (
               let t = f.turns in
-              halted air ends peers l settled (closing_due joins.own from l.initiator) (closings_plain joins.own from l.initiator) Unlink joins f.mid f.half t.notes t.going refl tt refl refl (λ ns. refl)
+              halted air ends peers l settled (closing_due joins.own from l.initiator) (closings_plain joins.own from l.initiator) Unlink joins f.mid f.half t.notes t.going refl tt refl refl
+              (λ ns. refl)
               h.sent h.payload h.listeners b (ap closing_due_at t.stands ∙ h.asked) h.passes h.heard h.left
-              after.end [] (s.setting quiet) (accepted ∙ sym (append-nil far.service.accepted)) (of_end air ends peers l settled (λ e. HaltAdds Unlink e []) refl) refl after.numbers (s.arrives quiet)))
+              after.end [] (s.setting quiet) (accepted ∙ sym (append-nil far.service.accepted)) (of_end air ends peers l settled (λ e. HaltAdds Unlink e []) refl) refl after.numbers
+              (s.arrives quiet)))
           | inr (inr h) ↦ absurd (h.hands quiet)
         ]

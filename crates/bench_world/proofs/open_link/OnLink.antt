@@ -119,7 +119,8 @@ served_now p o end after e same s =
       bound = ap (is_bound server_sap) bound ∙ s.bound;
     }
 
-pub served_set : (ls ms : List Device) (ps : List (Option ℕ)) (os : Ends) (place : ℕ) (end after : FarEnd) → map kept ms ≡ map kept ls → get_or os place None ≡ Some end → setting_of after ≡ setting_of end
+pub served_set : (ls ms : List Device) (ps : List (Option ℕ)) (os : Ends) (place : ℕ) (end after : FarEnd) → map kept ms ≡ map kept ls → get_or os place None ≡ Some end
+    → setting_of after ≡ setting_of end
     → AreServed ls ps os → AreServed ms ps (slice_set os place (Some after))
 served_set [] [] ps os place end after e at same a = tt
 served_set [] (m ∷ ms) ps os place end after e at same a = absurd cc
@@ -167,7 +168,8 @@ end_shown n zero (p ∷ ps) (l ∷ ls) (o ∷ os) end first long at =
 end_shown n (suc place) (p ∷ ps) (l ∷ ls) (o ∷ os) end first long at =
     by_number n p false (by_link peer_ends (device_linked l) o) _ first.0 ∙ (let less : length ps ≡ length ls = cc in end_shown n place ps ls os end first.1 less at)
 
-pub end_there : (n place : ℕ) (ps : List (Option ℕ)) (ls : List Device) (os : Ends) (end : FarEnd) → IsFirstWith n place ps → length ps ≡ length ls → linked_at place ls ≡ true → get_or os place None ≡ Some end
+pub end_there : (n place : ℕ) (ps : List (Option ℕ)) (ls : List Device) (os : Ends) (end : FarEnd) → IsFirstWith n place ps → length ps ≡ length ls → linked_at place ls ≡ true
+    → get_or os place None ≡ Some end
     → end_numbered n ps (shown device_linked peer_ends ls os) ≡ Some end
 end_there n place ps ls os end first long linked at = end_shown n place ps ls os end first long at ∙ ap (λ v. by_link peer_ends v (Some end)) linked
 
@@ -179,7 +181,8 @@ accepted_there n place ps ls os end first long at = ap accepted_by (end_shown n 
 rested_as : Setting → List Received → FarEnd
 rested_as s a = record (fresh_end s.miu s.window (record { limit = s.limit; table = s.table; accepted = a; sessions = no_sessions })) { bound = s.bound }
 
-rested_more : (end after : FarEnd) (more : List Received) → setting_of after ≡ setting_of end → after.service.accepted ≡ end.service.accepted ++ more → peer_ends.rested after ≡ accepting more (peer_ends.rested end)
+rested_more : (end after : FarEnd) (more : List Received) → setting_of after ≡ setting_of end → after.service.accepted ≡ end.service.accepted ++ more
+    → peer_ends.rested after ≡ accepting more (peer_ends.rested end)
 unfolding rested_as
 rested_more end after more same e = ap (λ s. rested_as s after.service.accepted) same ∙ ap (rested_as (setting_of end)) e
 
@@ -206,7 +209,8 @@ bare_alike (l ∷ ls) (k ∷ ks) os e =
 abbrev list_by : Bool → Ends → Ends → Ends
 list_by v x y = if v then x else y
 
-pub bare_more : (n place : ℕ) (ps : List (Option ℕ)) (ls : List Device) (os : Ends) (end after : FarEnd) (more : List Received) → IsFirstWith n place ps → length ps ≡ length ls → get_or os place None ≡ Some end
+pub bare_more : (n place : ℕ) (ps : List (Option ℕ)) (ls : List Device) (os : Ends) (end after : FarEnd) (more : List Received) → IsFirstWith n place ps → length ps ≡ length ls
+    → get_or os place None ≡ Some end
     → setting_of after ≡ setting_of end → after.service.accepted ≡ end.service.accepted ++ more → bare ls (slice_set os place (Some after)) ≡ with_accepted more n ps (bare ls os)
 bare_more n place [] ls os end after more first long at same e = absurd first
 bare_more n place (p ∷ ps) [] os end after more first long at same e = absurd cc

@@ -26,7 +26,8 @@ module _ (m : Machines) (place miu rw n : ℕ) (far : FarEnd) (new : Air Device)
     (asks : OpensAny restarts (Answers serving 0) m.air far new after (own_general miu) (by_cause r)) where
   -- ATR_RES came
   pub opens_ok : (i : InitState) (told : ArrayVec ℕ) → r ≡ Ok (i, told) → (result : Result Answer ObeyFault) (now : Machines)
-      → OnOk result (now ≡ machines_at_start (moved_at m new place after) n (length far.service.accepted) i (new_client miu rw told.items)) → IfOk result (λ a. a ≡ answers.Linked (length m.peers.links + 1))
+      → OnOk result (now ≡ machines_at_start (moved_at m new place after) n (length far.service.accepted) i (new_client miu rw told.items))
+      → IfOk result (λ a. a ≡ answers.Linked (length m.peers.links + 1))
       → IfErr result (λ e. e ≡ faults.Memory) → OnErr result (now ≡ moved_at m new place after) → OpensAt m now place miu rw n far result
   opens_ok i told is result now opened linked wanting same = record {
     air = new;
@@ -43,7 +44,8 @@ module _ (m : Machines) (place miu rw n : ℕ) (far : FarEnd) (new : Air Device)
       by_result (Err e) o l w s = (w, s)
 
   -- it didn't
-  pub opens_err : (e : LinkEnd) → r ≡ Err e → (result : Result Answer ObeyFault) (now : Machines) → NotOpened e.cause result → now ≡ moved_at m new place after → OpensAt m now place miu rw n far result
+  pub opens_err : (e : LinkEnd) → r ≡ Err e → (result : Result Answer ObeyFault) (now : Machines) → NotOpened e.cause result → now ≡ moved_at m new place after
+      → OpensAt m now place miu rw n far result
   opens_err e is result now told same = record {
     air = new;
     after = after;

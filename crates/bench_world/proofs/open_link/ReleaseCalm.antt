@@ -68,7 +68,8 @@ rls_says (T3 p) a linked heeds = absurd cc
 begins_fresh : (f g : Signal) (x y : Fate) → back_of (tag_events f x y (Some g)) ≡ backs.Nothing
 begins_fresh f g x y = refl
 
-module _ (quiet : (d : Device) → devices.handed d rls_frame ≡ Untouched) (mid b : Air Device) (place : ℕ) (i : InitState) (at : InStepAt mid place i) (half after : Choosing FarEnd) (heard : Option Heard)
+module _ (quiet : (d : Device) → devices.handed d rls_frame ≡ Untouched) (mid b : Air Device) (place : ℕ) (i : InitState) (at : InStepAt mid place i) (half after : Choosing FarEnd)
+    (heard : Option Heard)
     (turn : TurnIs devices (RestartsCounted serving) (AnswersCounted serving) mid rls_frame half heard b after) where
   abbrev peer : Device
   peer = at.step.1.listener

@@ -33,7 +33,12 @@ pub record KeepsEnd (old new : FarEnd) : Type 0 where
   pub rests : peer_ends.rested new ≡ peer_ends.rested old
 
 pub times_keep : (general : List ℕ) (n : ℕ) (far after : FarEnd) → RestartedTimes restarts general n far after → KeepsEnd far after
-times_keep general zero far after is = record { miu = ap (λ (l : FarEnd). l.miu) is; window = ap (λ (l : FarEnd). l.window) is; bound = ap (λ (l : FarEnd). l.bound) is; rests = ap peer_ends.rested is }
+times_keep general zero far after is = record {
+  miu = ap (λ (l : FarEnd). l.miu) is;
+  window = ap (λ (l : FarEnd). l.window) is;
+  bound = ap (λ (l : FarEnd). l.bound) is;
+  rests = ap peer_ends.rested is;
+}
 times_keep general (suc n) far after r =
     let more : KeepsEnd far r.0 = times_keep general n far r.0 r.1 in
     let is : after ≡ restarted serving r.0 general = r.2 in
@@ -80,7 +85,8 @@ set_rests (l ∷ ls) (o ∷ os) zero e f is same =
     (rests_shown peer_ends ends_table (device_linked l) (Some f) ∙ ap (λ x. Some x) same ∙ ap (rests peer_ends) (sym is) ∙ sym (rests_shown peer_ends ends_table (device_linked l) o))
 set_rests (l ∷ ls) (o ∷ os) (suc n) e f is same = ap (λ xs. rests peer_ends (by_link peer_ends (device_linked l) o) ∷ xs) (set_rests ls os n e f is same)
 
-pub set_served : (ds : List Device) (ps : List (Option ℕ)) (os : Ends) (n : ℕ) (e f : FarEnd) → get_or os n None ≡ Some e → KeepsEnd e f → AreServed ds ps os → AreServed ds ps (slice_set os n (Some f))
+pub set_served : (ds : List Device) (ps : List (Option ℕ)) (os : Ends) (n : ℕ) (e f : FarEnd) → get_or os n None ≡ Some e → KeepsEnd e f → AreServed ds ps os
+    → AreServed ds ps (slice_set os n (Some f))
 set_served [] ps os n e f is keeps s = tt
 set_served (d ∷ ds) ps [] n e f is keeps s = absurd cc
 set_served (d ∷ ds) ps (o ∷ os) zero e f is keeps s = (

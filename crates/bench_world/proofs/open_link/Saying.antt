@@ -24,7 +24,8 @@ use Rattle.bench_world.specs.declared.entry.Answer.TheVariants as answers
 use Rattle.bench_world.specs.declared.entry.Loss.{Loss}
 use Rattle.bench_world.specs.declared.entry.SlotDone.{SlotDone}
 use Rattle.bench_world.specs.World.{FarEnd}
-use Rattle.bench_world.specs.Calls.{AllAdd, CallAdds, CallMayAdd, CallTells, EachAdds, all_done, done_before, none_told, told_at_once, told_done, told_each, told_ending, told_jobs, told_one, told_several}
+use Rattle.bench_world.specs.Calls.{AllAdd, CallAdds, CallMayAdd, CallTells, EachAdds, all_done, done_before, none_told, told_at_once, told_done, told_each, told_ending, told_jobs, told_one}
+use Rattle.bench_world.specs.Calls.{told_several}
 use Rattle.bench_world.proofs.link_law.PutsTold.{accepted_more}
 
 -- how a call ended isn't told by a loss
@@ -69,11 +70,32 @@ says_get sap most key far (Sap n) client after s = absurd s
 says_get sap most key far (Refused refusals.Reject) client after s =
     record { more = []; accepted = s.accepted ∙ sym (append-nil far.service.accepted); adds = refl; tells = s.beyond; accords = s.answered.accords; never = ending_on (Refused refusals.Reject) }
 says_get sap most key far (Refused refusals.NotFound) client after s =
-    record { more = []; accepted = s.accepted ∙ sym (append-nil far.service.accepted); adds = refl; tells = (s.within, s.refuses); accords = s.answered.accords; never = ending_on (Refused refusals.NotFound) }
+    record {
+      more = [];
+      accepted = s.accepted ∙ sym (append-nil far.service.accepted);
+      adds = refl;
+      tells = (s.within, s.refuses);
+      accords = s.answered.accords;
+      never = ending_on (Refused refusals.NotFound);
+    }
 says_get sap most key far (Refused refusals.Excess) client after s =
-    record { more = []; accepted = s.accepted ∙ sym (append-nil far.service.accepted); adds = refl; tells = (s.within, s.refuses); accords = s.answered.accords; never = ending_on (Refused refusals.Excess) }
+    record {
+      more = [];
+      accepted = s.accepted ∙ sym (append-nil far.service.accepted);
+      adds = refl;
+      tells = (s.within, s.refuses);
+      accords = s.answered.accords;
+      never = ending_on (Refused refusals.Excess);
+    }
 says_get sap most key far (Refused refusals.NotImplemented) client after s =
-    record { more = []; accepted = s.accepted ∙ sym (append-nil far.service.accepted); adds = refl; tells = (s.within, s.refuses); accords = s.answered.accords; never = ending_on (Refused refusals.NotImplemented) }
+    record {
+      more = [];
+      accepted = s.accepted ∙ sym (append-nil far.service.accepted);
+      adds = refl;
+      tells = (s.within, s.refuses);
+      accords = s.answered.accords;
+      never = ending_on (Refused refusals.NotImplemented);
+    }
 
 -- a name is looked up
 pub says_find : (name : List ℕ) (far : FarEnd) (ending : Ending) (client : EndState) (after : FarEnd) → Served client_sap (Finds name) far (Ok ending) client after
@@ -144,7 +166,8 @@ put_left m far faults.Excess client after s = tt
 put_left m far faults.NotImplemented client after s = tt
 put_left m far faults.SlotBusy client after s = tt
 
-pub get_left : (sap most : ℕ) (key : List ℕ) (far : FarEnd) (x : SnepFault) (client : EndState) (after : FarEnd) → Served sap (Gets most key) far (Err x) client after → LeftBy (Getting sap most key) far after x
+pub get_left : (sap most : ℕ) (key : List ℕ) (far : FarEnd) (x : SnepFault) (client : EndState) (after : FarEnd) → Served sap (Gets most key) far (Err x) client after
+    → LeftBy (Getting sap most key) far after x
 get_left sap most key far (faults.LinkEnded c) client after s = left_none (Getting sap most key) far after s refl
 get_left sap most key far faults.Memory client after s = left_none (Getting sap most key) far after s refl
 get_left sap most key far faults.BadPeer client after s = s
@@ -201,7 +224,8 @@ module _ (far after : FarEnd) (more : List Received) (grew : after.service.accep
   one_said w outcomes.Staged answer e h = absurd cc
   one_said w outcomes.NoMessage answer e h = absurd cc
 
-  next_said : (w : SlotMessage) (ws : List SlotMessage) (ds : List SlotDone) (o : Outcome) (r : Option (List SlotDone)) → done_before w.slot o r ≡ Some ds → PutSo o (sap_of_slot w.slot) w.message far after.service.accepted
+  next_said : (w : SlotMessage) (ws : List SlotMessage) (ds : List SlotDone) (o : Outcome) (r : Option (List SlotDone)) → done_before w.slot o r ≡ Some ds
+      → PutSo o (sap_of_slot w.slot) w.message far after.service.accepted
       → ((es : List SlotDone) → r ≡ Some es → EachAdds ws Limit (map told_done es) more) → EachAdds (w ∷ ws) Limit (map told_done ds) more
   next_said w ws ds outcomes.Success (Some es) e h rest =
       let is : record { slot = w.slot; success = true } ∷ es ≡ ds = cc in

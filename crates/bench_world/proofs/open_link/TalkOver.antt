@@ -82,7 +82,8 @@ module _ (air : Air Device) (ends : FarEnds) (peers : Peers) (settled : IsSettle
   none_open Unlink on may = none_so Unlink may refl refl refl (λ ns. refl) (λ es. refl)
   none_open c on may = off on
 
-pub nowhere : (old new : Machines) → IsSettled old → old.link ≡ None → new ≡ old → (joins : Joins) (c : Command) (asked : LinkAsking) → asked_on_link c ≡ Some asked → Accepts (state_at old) c → ObeyedBy joins old new c answers.NoLink
+pub nowhere : (old new : Machines) → IsSettled old → old.link ≡ None → new ≡ old → (joins : Joins) (c : Command) (asked : LinkAsking) → asked_on_link c ≡ Some asked → Accepts (state_at old) c
+    → ObeyedBy joins old new c answers.NoLink
 nowhere old new settled none same joins c asked asks may =
     let N : Option OpenLink → Machines = λ o. under old.ends old.peers o old.air in
     let S : IsSettled (N None) = subst (λ o. IsSettled (N o)) none settled in
@@ -138,7 +139,8 @@ module _ (old mid : Machines) (settled : IsSettled old) (q : ℕ) (l : OpenLink)
       abbrev Made : List OnSap → Choosing FarEnd → Air Device → Type 0
       Made jobs f a = IsMade ghosts device_end joins.own (call_begins l.client call) a l.initiator f b j after (Ends jobs client)
 
-      ended : (jobs : List OnSap) (answer : Answer) (new : Machines) → new ≡ Back → Made jobs far mid.air → slots ≡ slots_behind call jobs l.slots → told_jobs call jobs ≡ Some answer → Says call Own answer client after.end
+      ended : (jobs : List OnSap) (answer : Answer) (new : Machines) → new ≡ Back → Made jobs far mid.air → slots ≡ slots_behind call jobs l.slots → told_jobs call jobs ≡ Some answer
+          → Says call Own answer client after.end
           → ObeyedBy joins old new c answer
       ended jobs answer new back made same told says =
           open_so old mid settled q l far.end t joins b j after client slots c new answer back
@@ -148,7 +150,8 @@ module _ (old mid : Machines) (settled : IsSettled old) (q : ℕ) (l : OpenLink)
       abbrev Fails : SnepFault → Choosing FarEnd → Air Device → Type 0
       Fails x f a = CallFails ghosts device_end joins.own (call_begins l.client call) a l.initiator f b j after client x
 
-      lost : (why : EndCause) (answer : Answer) (new : Machines) → new ≡ Down → Fails (faults.LinkEnded why) far mid.air → Left call Own after.end → told_loss why ≡ Some answer → ObeyedBy joins old new c answer
+      lost : (why : EndCause) (answer : Answer) (new : Machines) → new ≡ Down → Fails (faults.LinkEnded why) far mid.air → Left call Own after.end → told_loss why ≡ Some answer
+          → ObeyedBy joins old new c answer
       lost why answer new down goes left told =
           gone_so old mid settled q l far.end t joins b j after client slots c new answer down (by why told (of_own (Fails (faults.LinkEnded why)) goes))
         where
@@ -283,7 +286,8 @@ module _ (old mid : Machines) (settled : IsSettled old) (q : ℕ) (l : OpenLink)
     asked_ended (requests.Run ws) (Refused why) e open_ may_ask rest back k = absurd k
     asked_ended requests.Close ending e open_ may_ask rest back k = absurd cc
 
-    pub asked_closed : (r : LinkRequest) (ending : Ending) → asked_on_link c ≡ Some (asking_of r) → is_closing (asking_of r) ≡ true → new ≡ Down → Asked r (Ok ending) → ObeyedBy joins old new c answers.Unlinked
+    pub asked_closed : (r : LinkRequest) (ending : Ending) → asked_on_link c ≡ Some (asking_of r) → is_closing (asking_of r) ≡ true → new ≡ Down → Asked r (Ok ending)
+        → ObeyedBy joins old new c answers.Unlinked
     asked_closed requests.Close ending e over down k = closed c may e ending new down k
     asked_closed (requests.Put m) ending e over down k = absurd cc
     asked_closed (requests.Get slot most key) ending e over down k = absurd cc
@@ -293,7 +297,8 @@ module _ (old mid : Machines) (settled : IsSettled old) (q : ℕ) (l : OpenLink)
     pub asked_told : (r : LinkRequest) (x : SnepFault) → asked_on_link c ≡ Some (asking_of r) → new ≡ Down → Asked r (Err x) → IfOk (fault_told x) (λ answer. ObeyedBy joins old new c answer)
     asked_told (requests.Put m) x e down k = told c may (put_from 0 m.now) e x new down k.goes (put_left m.now Own x client after.end (served c may client_sap (Puts m.now) (Err x) k))
     asked_told (requests.Get slot most key) x e down k =
-        told c may (Getting (sap_of_slot slot) most key.now) e x new down k.goes (get_left (sap_of_slot slot) most key.now Own x client after.end (served c may (sap_of_slot slot) (Gets most key.now) (Err x) k))
+        told c may (Getting (sap_of_slot slot) most key.now) e x new down k.goes (get_left (sap_of_slot slot) most key.now Own x client after.end
+        (served c may (sap_of_slot slot) (Gets most key.now) (Err x) k))
     asked_told (requests.Lookup name) x e down k = told c may (Finding name.now) e x new down k.goes (find_left name.now Own x client after.end (served c may client_sap (Finds name.now) (Err x) k))
     asked_told (requests.Run ws) x e down k = told c may (Putting ws.now) e x new down k.goes (all_served ws.now x k)
     asked_told requests.Close x e down k = told_closing_fault c may e x new down k
@@ -301,7 +306,9 @@ module _ (old mid : Machines) (settled : IsSettled old) (q : ℕ) (l : OpenLink)
     pub asked_cut : (r : LinkRequest) (x : SnepFault) → asked_on_link c ≡ Some (asking_of r) → new ≡ Down → Asked r (Err x) → IsErr (fault_told x) → IsCutOffBy joins old new c
     asked_cut (requests.Put m) x e down k err = cut c may (put_from 0 m.now) e x new down k.goes (put_left m.now Own x client after.end (served c may client_sap (Puts m.now) (Err x) k)) err
     asked_cut (requests.Get slot most key) x e down k err =
-        cut c may (Getting (sap_of_slot slot) most key.now) e x new down k.goes (get_left (sap_of_slot slot) most key.now Own x client after.end (served c may (sap_of_slot slot) (Gets most key.now) (Err x) k)) err
-    asked_cut (requests.Lookup name) x e down k err = cut c may (Finding name.now) e x new down k.goes (find_left name.now Own x client after.end (served c may client_sap (Finds name.now) (Err x) k)) err
+        cut c may (Getting (sap_of_slot slot) most key.now) e x new down k.goes (get_left (sap_of_slot slot) most key.now Own x client after.end
+        (served c may (sap_of_slot slot) (Gets most key.now) (Err x) k)) err
+    asked_cut (requests.Lookup name) x e down k err = cut c may (Finding name.now) e x new down k.goes (find_left name.now Own x client after.end (served c may client_sap (Finds name.now) (Err x) k))
+        err
     asked_cut (requests.Run ws) x e down k err = cut c may (Putting ws.now) e x new down k.goes (all_served ws.now x k) err
     asked_cut requests.Close x e down k err = closing_cut c may e x new down k err

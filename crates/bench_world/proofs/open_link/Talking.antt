@@ -37,7 +37,8 @@ by_loss P all cause.SixBad answer e = let same : answers.LinkEnded losses.SixBad
 by_loss P all cause.Protocol answer e = absurd cc
 by_loss P all cause.Memory answer e = absurd cc
 
-module _ (air : Air Device) (ends : FarEnds) (peers : Peers) (l : OpenLink) (settled : IsSettled (under ends peers (Some l) air)) (c : Command) (call : Call) (asks : asked_on_link c ≡ Some (Does call))
+module _ (air : Air Device) (ends : FarEnds) (peers : Peers) (l : OpenLink) (settled : IsSettled (under ends peers (Some l) air)) (c : Command) (call : Call)
+    (asks : asked_on_link c ≡ Some (Does call))
     (may : Accepts (from_state air ends peers l settled) c) where
   pub call_is : IsCall air ends peers l settled c call
   call_is =
@@ -69,7 +70,8 @@ module _ (air : Air Device) (ends : FarEnds) (peers : Peers) (l : OpenLink) (set
     abbrev pub gone : Machines
     gone = Gone air ends peers l settled c call call_is joins b j after
 
-    pub made_so : (jobs : List OnSap) (answer : Answer) → IsMade ghosts device_end joins.own (call_begins l.client call) air l.initiator counted b j after (Ends jobs client) → told_jobs call jobs ≡ Some answer
+    pub made_so : (jobs : List OnSap) (answer : Answer) → IsMade ghosts device_end joins.own (call_begins l.client call) air l.initiator counted b j after (Ends jobs client)
+        → told_jobs call jobs ≡ Some answer
         → Says call far answer client after.end → ObeyedBy joins Old (opens jobs) c answer
     made_so jobs answer made told x =
         made_obeyed air ends peers l settled c call call_is joins b j after jobs client answer made told x.never

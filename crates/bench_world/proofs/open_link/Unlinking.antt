@@ -28,7 +28,8 @@ use Rattle.bench_world.specs.Peers.{Peers, placed_under}
 use Rattle.bench_world.specs.Links.{OpenLink, accepted_by, end_numbered, is_number, ended, with_last_ended, last_ended, is_with, accepted_at, begun_if}
 use Rattle.bench_world.specs.Arriving.{BeginsAt}
 use Rattle.bench_world.specs.Calls.{IfLinked}
-use Rattle.bench_world.specs.Legal.{State, Given, Joins, IsPlaced, AnswerLaw, FrontOf, CutFront, CutShort, CutStores, due, unlinked, is_linked_to, without_device, world_after, link_after, state_after, no_joins}
+use Rattle.bench_world.specs.Legal.{State, Given, Joins, IsPlaced, AnswerLaw, FrontOf, CutFront, CutShort, CutStores, due, unlinked, is_linked_to, without_device, world_after, link_after, state_after}
+use Rattle.bench_world.specs.Legal.{no_joins}
 use Rattle.bench_world.specs.Obeying.{Machines, state_at, HasPlaces, IsSettled, KeepsLink, Obeyed, ObeyedBy, IsCutOff, ObeyedUnlinked, CutOffUnlinked, link_ended, taken_out}
 use Rattle.std.proofs.lemmas.List.{length-append}
 use Rattle.bench_world.proofs.open_link.LinkKept.{keeps_so, open_less}
@@ -150,13 +151,15 @@ pub count_ended : (o : Option OpenLink) (p : Peers) (os : List (Option FarEnd)) 
 count_ended None p os = refl
 count_ended (Some l) p os = as_many_links (accepted_at l.peer p os) p.links
 
-same_opened : (s : State) (joins : Joins) (id : List ℕ) (miu rw : ℕ) (es : List Event) (told : Option Answer) → link_after (unlinked s) joins (Link id miu rw) es told ≡ link_after s joins (Link id miu rw) es told
+same_opened : (s : State) (joins : Joins) (id : List ℕ) (miu rw : ℕ) (es : List Event) (told : Option Answer)
+    → link_after (unlinked s) joins (Link id miu rw) es told ≡ link_after s joins (Link id miu rw) es told
 same_opened s joins id miu rw es None = refl
 same_opened s joins id miu rw es (Some (answers.Linked n)) =
     ap (λ ps. link_if (placed_under id s.world.field.listeners ps) (device_with id s.world.field.listeners) miu rw) (same_numbers s.link s.peers s.world.fars)
 same_opened s joins id miu rw es (Some a) = refl
 
-same_after : (s : State) (joins : Joins) (id : List ℕ) (miu rw : ℕ) (es : List Event) (told : Option Answer) → state_after (unlinked s) joins (Link id miu rw) es told ≡ state_after s joins (Link id miu rw) es told
+same_after : (s : State) (joins : Joins) (id : List ℕ) (miu rw : ℕ) (es : List Event) (told : Option Answer)
+    → state_after (unlinked s) joins (Link id miu rw) es told ≡ state_after s joins (Link id miu rw) es told
 same_after s joins id miu rw es told =
     let S : Option OpenLink → State = λ l. record {
       world = world_after s joins (Link id miu rw) es;
@@ -167,7 +170,8 @@ same_after s joins id miu rw es told =
     ap S (same_opened s joins id miu rw es told)
 
 same_begun : (s : State) (joins : Joins) (id : List ℕ) (miu rw : ℕ) (es : List Event) (a : Answer)
-    → IfLinked (link_after (unlinked s) joins (Link id miu rw) es (Some a)) (λ l. BeginsAt l (own_general miu) (unlinked s).peers.numbers s.world.fars (world_after s joins (Link id miu rw) es).fars) (Unit {0})
+    → IfLinked (link_after (unlinked s) joins (Link id miu rw) es (Some a)) (λ l. BeginsAt l (own_general miu) (unlinked s).peers.numbers s.world.fars (world_after s joins (Link id miu rw) es).fars)
+    (Unit {0})
     → IfLinked (link_after s joins (Link id miu rw) es (Some a)) (λ l. BeginsAt l (own_general miu) s.peers.numbers s.world.fars (world_after s joins (Link id miu rw) es).fars) (Unit {0})
 same_begun s joins id miu rw es a h =
     let P : List (Option ℕ) → Option OpenLink → Type 0 = λ ps o. IfLinked o (λ l. BeginsAt l (own_general miu) ps s.world.fars (world_after s joins (Link id miu rw) es).fars) (Unit {0}) in
@@ -175,7 +179,15 @@ same_begun s joins id miu rw es a h =
 
 pub link_resets : (id : List ℕ) (miu rw : ℕ) → IsReset (Link id miu rw)
 link_resets id miu rw = record {
-  front = λ s t g es told f. record { accepted = f.accepted; asks = f.asks; takes = f.takes; turns = f.turns; fates = f.fates; each = f.each; after = f.after ∙ same_after s g.joins id miu rw es told };
+  front = λ s t g es told f. record {
+    accepted = f.accepted;
+    asks = f.asks;
+    takes = f.takes;
+    turns = f.turns;
+    fates = f.fates;
+    each = f.each;
+    after = f.after ∙ same_after s g.joins id miu rw es told;
+  };
   next = λ s g ns. refl;
   law = λ s g es answer l. record {
     tells = subst (λ n. LinkTells (A id) s.world.field.listeners (n + 1) (own_general miu) es answer) (count_ended s.link s.peers s.world.fars) l.tells;
@@ -283,7 +295,8 @@ module _ (old new : Machines) (id : DeviceId) (place : ℕ) (settled : IsSettled
       let few : place < length old.air.listeners = omega (arith, s.at, ap length s.split, length-append s.before (s.device ∷ s.behind)) in
       let numbers : place < length old.peers.numbers = omega (arith, few, settled.places.numbers) in
       let ends : place < length old.ends = omega (arith, few, settled.places.ends) in
-      let other : (l : OpenLink) → old.link ≡ Some l → is_number l.peer (get_or old.peers.numbers place None) ≡ false = λ l at. sym (ap (λ o. is_with o (get_or old.peers.numbers place None)) at) ∙ apart in
+      let other : (l : OpenLink) → old.link ≡ Some l → is_number l.peer (get_or old.peers.numbers place None) ≡ false =
+      λ l at. sym (ap (λ o. is_with o (get_or old.peers.numbers place None)) at) ∙ apart in
       let keeps : KeepsLink (taken_out old place) =
       keeps_so old (taken_out old place) refl
       (λ l at o. open_less old.air (taken_out old place).air old.ends old.peers (taken_out old place).peers l place (other l at) numbers ends refl refl refl o) settled.link in
@@ -307,7 +320,8 @@ next_place n (p ∷ ps) [] (suc i) within =
 next_place n (p ∷ ps) (o ∷ os) (suc i) within = next_place n ps os i (omega (arith, within))
 
 module _ (n : ℕ) (ps : List (Option ℕ)) (i : ℕ) (within : i < length ps) (p : Option ℕ) where
-  by_place : (v : Bool) → is_number n (get_or ps i p) ≡ v → (os : List (Option FarEnd)) → end_numbered n (drop i ps) (drop i os) ≡ (if v then get_or os i None else end_numbered n (drop (suc i) ps) (drop (suc i) os))
+  by_place : (v : Bool) → is_number n (get_or ps i p) ≡ v → (os : List (Option FarEnd)) → end_numbered n (drop i ps) (drop i os)
+      ≡ (if v then get_or os i None else end_numbered n (drop (suc i) ps) (drop (suc i) os))
   by_place v named os =
       next_place n ps os i within ∙ ap (λ w. if w then get_or os i None else end_numbered n (drop (suc i) ps) (drop (suc i) os)) (ap (is_number n) (any_other ps i None p within) ∙ named)
 

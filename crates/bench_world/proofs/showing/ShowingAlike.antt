@@ -87,7 +87,8 @@ open_ended (Does call) l own es a h = behind_came l call (stands_on l own call e
 open_ended Closes l own es a h = absurd cc
 
 -- turns of a command on the open link that are over, by some numbers, and by those that they show
-module _ (s : State) (c : Command) (asked : LinkAsking) (on : asked_on_link c ≡ Some asked) (l : OpenLink) (open_ : s.link ≡ Some l) (b : IsBetweenCommands s) (g : Given) (es : List Event) (a : Answer)
+module _ (s : State) (c : Command) (asked : LinkAsking) (on : asked_on_link c ≡ Some asked) (l : OpenLink) (open_ : s.link ≡ Some l) (b : IsBetweenCommands s) (g : Given) (es : List Event)
+    (a : Answer)
     (turns : AreTurns bench_air (world_at_start s g.joins c) es) (each : EachDue (due s g c) [] es) (over : due s g c (receptions es) ≡ Over) where
   abbrev pub shown : Joins
   shown = shown_of s c (es ++ [])

@@ -8,7 +8,8 @@ use Rattle.far_air.specs.FarWorld.{with_numbers}
 use Rattle.peer_air.specs.PeerFars.{peer_ends}
 use Rattle.link_numbers.proofs.far.FarFree.{replay_free, turns_free}
 use Rattle.bench_script.specs.declared.command.Command.{Command}
-use Rattle.bench_script.specs.declared.command.Command.TheVariants.{Skip, Fates, PlaceT2, PlaceT3, PlaceT4, PlaceT5, PlacePeer, Lock, Busy, Offer, Remove, Dump, Inbox, Find, Crowd, Poll3, Read, Read3, Write, Write3, Link, Forge, Raw, Put, Get, Lookup, OnPut, OnGet, Puts, Unlink}
+use Rattle.bench_script.specs.declared.command.Command.TheVariants.{Skip, Fates, PlaceT2, PlaceT3, PlaceT4, PlaceT5, PlacePeer, Lock, Busy, Offer, Remove, Dump, Inbox, Find, Crowd, Poll3, Read, Read3}
+use Rattle.bench_script.specs.declared.command.Command.TheVariants.{Write, Write3, Link, Forge, Raw, Put, Get, Lookup, OnPut, OnGet, Puts, Unlink}
 use Rattle.bench_devices.specs.AnyFrame.{peers_in}
 use Rattle.bench_devices.specs.Device.{device_linked, devices}
 use Rattle.bench_world.specs.declared.entry.Answer.{Answer}

@@ -14,7 +14,8 @@ use Rattle.nfc_base.specs.declared.event.Fate.TheVariants.{Pass, Damage, Lose, B
 use Rattle.nfc_base.specs.declared.event.Heard.{Heard}
 use Rattle.nfc_base.specs.declared.event.Heard.TheVariants.{Whole, Collided, Damaged, Silent}
 use Rattle.air_core.specs.Joint.{Joint, Nothing, Single, Clashing}
-use Rattle.air_core.specs.Conversation.{AreTurns, Asks, EachDue, FatesFrom, LightUp, Lit, Moment, Next, Note, Over, TurnsTo, first_fate, joint_back, joint_events, later_fates, note, queue_after, receptions, replay, turn_events, turn_heard, with_events}
+use Rattle.air_core.specs.Conversation.{AreTurns, Asks, EachDue, FatesFrom, LightUp, Lit, Moment, Next, Note, Over, TurnsTo, first_fate, joint_back, joint_events, later_fates, note, queue_after}
+use Rattle.air_core.specs.Conversation.{receptions, replay, turn_events, turn_heard, with_events}
 use Rattle.air_core.specs.laws.Turning.{due-append, events-append, receptions-append, replay-append, turns-append}
 use Rattle.air_core.proofs.Following.{light_is_no_request, over_is_no_request, same_asked, turn_first, turn_known}
 use Rattle.arrayvec.specs.ArrayVec.{ArrayVec}

@@ -171,5 +171,6 @@ module _ (s : State) (b : IsBetweenCommands s) (g : Given) (id : List ℕ) (payl
       (forge_shows turned (tail ++ more) turns each (fates_front s.queue turned (tail ++ rest) (subst (FatesFrom s.queue) all front.fates))).turns in
       same_by turned (tail ++ more) (subst (λ ks. AreTurns bench_air (with_numbers w ks) turned) far made) each)
     where
-      same_by : (turned more : List Event) → AreTurns bench_air (world_at_start s h.joins c) turned → EachDue (due s g c) [] turned → GoesSame bench_air (world_at_start s h.joins c) (due s g c) (due s h c) turned more
+      same_by : (turned more : List Event) → AreTurns bench_air (world_at_start s h.joins c) turned → EachDue (due s g c) [] turned
+          → GoesSame bench_air (world_at_start s h.joins c) (due s g c) (due s h c) turned more
       same_by turned more turns each = record { turns = turns; each = each; asks = λ f x tail is e. e; over = λ e. e; over_back = λ e. e }

@@ -9,7 +9,8 @@ use Rattle.nfc_base.specs.declared.event.Event.TheVariants.{Reset, Request}
 use Rattle.nfc_base.specs.declared.event.Fate.{Fate}
 use Rattle.nfc_base.specs.declared.event.Fate.TheVariants.{Pass, Damage, Lose, Break}
 use Rattle.air_core.specs.Joint.{Nothing}
-use Rattle.air_core.specs.Conversation.{AirModel, Note, Next, Over, LightUp, Asks, receptions, EachDue, first_fate, later_fates, queue_after, FatesFrom, replay, turn_events, Move, Light, Ask, trace_of, AreTurns}
+use Rattle.air_core.specs.Conversation.{AirModel, Note, Next, Over, LightUp, Asks, receptions, EachDue, first_fate, later_fates, queue_after, FatesFrom, replay, turn_events, Move, Light, Ask}
+use Rattle.air_core.specs.Conversation.{trace_of, AreTurns}
 use Rattle.air_core.specs.laws.Turning.{queue_after-append, replay-append}
 use Rattle.air_core.proofs.Following.{same_asked, light_is_no_request, no_demand, turn_first, turn_split}
 use Rattle.air_core.proofs.OneCourse.{joint_fated}

@@ -24,7 +24,9 @@ use Rattle.snep_core.specs.declared.job.Job.TheVariants.{Begins, Sends, Asks}
 use Rattle.snep_core.specs.declared.job.OnSap.{OnSap}
 use Rattle.snep_core.specs.declared.silent.NoService.{NoService}
 use Rattle.snep_core.specs.Talk as talk
-use Rattle.snep_core.specs.Talk.{CameTo, EndState, Finds, Gets, Leaves, Puts, Ready, Step, Task, TaskOn, Working, all_emptied, all_forgotten, all_heard, all_opening, all_over, all_readied, all_well, begins_all, continue_bytes, emptied, gave_any, idle_after, miu_of, most_idle, payload, readied, ready, replied, sends_some, server_sap, silent, submits, takes_more, took}
+use Rattle.snep_core.specs.Talk.{CameTo, EndState, Finds, Gets, Leaves, Puts, Ready, Step, Task, TaskOn, Working, all_emptied, all_forgotten, all_heard, all_opening, all_over, all_readied, all_well}
+use Rattle.snep_core.specs.Talk.{begins_all, continue_bytes, emptied, gave_any, idle_after, miu_of, most_idle, payload, readied, ready, replied, sends_some, server_sap, silent, submits, takes_more}
+use Rattle.snep_core.specs.Talk.{took}
 use Rattle.link_numbers.specs.OwnShows.{AtEnd}
 use Rattle.bench_world.specs.Cutting.{GivesShort, OwnShort, QueuedShort, StandsShort}
 use Rattle.bench_world.proofs.sizes.SizedConns.{own_found, put_own_short, queued_short, without_own_short}

@@ -1,5 +1,6 @@
 -- An end whose payloads are short goes on so, whatever it takes and gives: that of a peer, and one that asks for connections itself.
-use Rattle.std.proofs.Common.{◌≡◌, ◌≤◌, ◌+◌, ◌-◌, ◌*◌, ◌/◌, ◌==◌, nat_le, ℕ, zero, suc, true, false, List, [], ◌∷◌, ◌++◌, length, take, Option, Some, None, if◌then◌else◌, arith, refl, sym, subst, length-append}
+use Rattle.std.proofs.Common.{◌≡◌, ◌≤◌, ◌+◌, ◌-◌, ◌*◌, ◌/◌, ◌==◌, nat_le, ℕ, zero, suc, true, false, List, [], ◌∷◌, ◌++◌, length, take, Option, Some, None, if◌then◌else◌, arith, refl, sym, subst}
+use Rattle.std.proofs.Common.{length-append}
 use Rattle.std.specs.Prelude.{IfSome, is_some}
 use Rattle.std.specs.List.{AllByRecursion, cons_option, filter_map}
 use Rattle.llcp_pdu.specs.declared.param.Param.{Param}
@@ -23,11 +24,13 @@ use Rattle.llcp_link.specs.Taking as t
 use Rattle.llcp_link.specs.Taking.{Item, Good, Broken, brought, step, steps, taken_from}
 use Rattle.llcp_link.specs.Own.{OwnGave, ack_on, ack_so, cc_on, cc_so, dm_on, dm_so, gave_so, if_there, on_own, unit_on, unit_so}
 use Rattle.llcp_link.specs.Giving as g
-use Rattle.llcp_link.specs.Giving.{Gave, GaveAll, after_giving, first_from, gave, gave_first, gave_none, given, given_parts, given_so, joined, joined_so, may_send, or_else, others, payload_of, sap_after}
+use Rattle.llcp_link.specs.Giving.{Gave, GaveAll, after_giving, first_from, gave, gave_first, gave_none, given, given_parts, given_so, joined, joined_so, may_send, or_else, others, payload_of}
+use Rattle.llcp_link.specs.Giving.{sap_after}
 use Rattle.llcp_link.proofs.Ranged.{either}
 use Rattle.link_numbers.proofs.payloads.Payload.{given_fit}
 use Rattle.bench_world.specs.Cutting.{ConnShort, GivesShort, OwnShort, QueuedShort, StandsShort}
-use Rattle.bench_world.proofs.sizes.SizedConns.{HolderShort, PduShort, ack_short, found_short, holds_short, nr_takes, own_found, own_holds, pdu_short, queued_short, unit_takes, with_own_short, with_short, without_short}
+use Rattle.bench_world.proofs.sizes.SizedConns.{HolderShort, PduShort, ack_short, found_short, holds_short, nr_takes, own_found, own_holds, pdu_short, queued_short, unit_takes, with_own_short}
+use Rattle.bench_world.proofs.sizes.SizedConns.{with_short, without_short}
 use Rattle.bench_world.proofs.sizes.SizedEnds.{IsLess}
 use Rattle.bench_world.proofs.sizes.SizedItems.{ItemSmall, brought_small}
 use Rattle.bench_world.proofs.sizes.SizedWorld.{all_more}

@@ -15,7 +15,8 @@ use Rattle.link_calls.specs.CallDue.{CallStanding, Comes}
 use Rattle.link_numbers.proofs.own.Resting.{comes_rested, waiting_rested}
 use Rattle.bench_script.specs.DeviceIds.{bytes_of}
 use Rattle.bench_script.specs.declared.command.Command.{Command}
-use Rattle.bench_script.specs.declared.command.Command.TheVariants.{PlaceT2, PlaceT3, PlaceT4, PlaceT5, PlacePeer, Lock, Busy, Offer, Remove, Find, Crowd, Poll3, Read, Read3, Write, Write3, Link, Forge, Raw, Lookup}
+use Rattle.bench_script.specs.declared.command.Command.TheVariants.{PlaceT2, PlaceT3, PlaceT4, PlaceT5, PlacePeer, Lock, Busy, Offer, Remove, Find, Crowd, Poll3, Read, Read3, Write, Write3, Link}
+use Rattle.bench_script.specs.declared.command.Command.TheVariants.{Forge, Raw, Lookup}
 use Rattle.bench_devices.specs.declared.device.Device.{Device}
 use Rattle.bench_devices.specs.Device.{device_busy, device_id, device_linked, device_locked, device_target, devices, new_peer, new_t2, new_t3, new_t4, new_t5}
 use Rattle.bench_devices.specs.Placed.{device_with, with_changed, without}

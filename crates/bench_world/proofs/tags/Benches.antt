@@ -68,7 +68,8 @@ pub made_quiet : (joins : Joins) (a k : Machines) (line : ℕ) (c : Command) (e 
 made_quiet joins a k line c e settled m = ap (λ (x : Machines). x.air.trace) m.left ∙ sym settled.idle.quiet
 
 -- a command was obeyed, and its entry added
-pub adds_entry : (old : Benched) (rs : List (List Entry)) (a k : Machines) (js ks : List Entry) (line : ℕ) (c : Command) (e : Entry) (joins : Joins) → joins ≡ no_joins → (c ≡ Skip → ⊥) → old ≡ seen rs js a false → IsSettled a
+pub adds_entry : (old : Benched) (rs : List (List Entry)) (a k : Machines) (js ks : List Entry) (line : ℕ) (c : Command) (e : Entry) (joins : Joins) → joins ≡ no_joins → (c ≡ Skip → ⊥)
+    → old ≡ seen rs js a false → IsSettled a
     → Makes (joins_for c joins) a k line c e → ks ≡ js ++ e ∷ [] → Obeys old (seen rs ks k false) line c
 adds_entry old rs a k js ks line c e joins most other is settled m added =
     let i = made_legal (joins_for c joins) a k line c e m in

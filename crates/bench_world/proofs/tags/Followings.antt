@@ -82,7 +82,8 @@ is_untraced m quiet =
     ap (λ es. let x : Machines = record { air = record { lit = m.air.lit; listeners = m.air.listeners; fates = m.air.fates; trace = es }; ends = m.ends; peers = m.peers; link = m.link } in x) quiet
 
 -- want of memory cut the command off, and what happened in it was let go
-pub loses : (old : Benched) (rs : List (List Entry)) (a b k : Machines) (js ks : List Entry) (c : Command) (joins : Joins) → old ≡ seen rs js a false → ks ≡ js → IsCutOffBy joins a b c → k ≡ untraced b
+pub loses : (old : Benched) (rs : List (List Entry)) (a b k : Machines) (js ks : List Entry) (c : Command) (joins : Joins) → old ≡ seen rs js a false → ks ≡ js → IsCutOffBy joins a b c
+    → k ≡ untraced b
     → LosesTrack old (seen rs ks k true) c
 loses old rs a b k js ks c joins is same cut gone =
     let S : List Entry → Machines → Benched → Type 0 = λ xs x o. SpoilsTrack o (seen rs xs x true) c in

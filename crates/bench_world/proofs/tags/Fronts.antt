@@ -156,7 +156,8 @@ asks_no_first s g c f quiet e = elim (begins_lit s g c quiet) [
 ]
 
 -- So none hands anything over in them.
-pub none_hand : (s : State) (g : Given) (c : Command) (es : List Event) → (UsesFars c → ⊥) → IsAskedBy s c g.asked → EachDue (due s g c) [] es → back_of es ≡ backs.Nothing → (w : BenchWorld) → NoneHands devices w es
+pub none_hand : (s : State) (g : Given) (c : Command) (es : List Event) → (UsesFars c → ⊥) → IsAskedBy s c g.asked → EachDue (due s g c) [] es → back_of es ≡ backs.Nothing → (w : BenchWorld)
+    → NoneHands devices w es
 none_hand s g c [] quiet asked each first w = tt
 none_hand s g c (Reset ∷ es) quiet asked each first w = ((unlinked_stay devices device_linked devices_link).1 w es (calm_due s g c (Reset ∷ es) quiet asked each)).none
 none_hand s g c (Request f x ∷ es) quiet asked each first w = absurd (asks_no_first s g c f quiet each.0)
@@ -167,7 +168,8 @@ none_in_front : {told : Option Told} (s t : State) (g : Given) (c : Command) (es
 none_in_front s t g c es quiet front w =
     none_hand s g c es quiet front.asks front.each (ap back_of front.turns.made ∙ trace_first bench_air (world_at_start s g.joins c) front.turns.moves) w
 
-does_quietly : {told : Option Told} (s t : State) (g : Given) (c : Command) (es : List Event) → (UsesFars c → ⊥) → FrontOf s g c es told t → (w : WholeWorld) → DoesQuietly devices device_linked peer_ends w es
+does_quietly : {told : Option Told} (s t : State) (g : Given) (c : Command) (es : List Event) → (UsesFars c → ⊥) → FrontOf s g c es told t → (w : WholeWorld)
+    → DoesQuietly devices device_linked peer_ends w es
 does_quietly s t g c es quiet front w = quiet_fields devices device_linked peer_ends w es (none_in_front s t g c es quiet front w.field)
 
 -- A front over the field alone.
@@ -186,7 +188,8 @@ on_field s t g c es quiet front =
     }
 
 -- the field of the state after a front
-pub field_after : {told : Option Told} (s t : State) (g : Given) (c : Command) (es : List Event) → (UsesFars c → ⊥) → FrontOf s g c es told t → (world_after s g.joins c es).field ≡ replay air (changed s c).world.field es
+pub field_after : {told : Option Told} (s t : State) (g : Given) (c : Command) (es : List Event) → (UsesFars c → ⊥) → FrontOf s g c es told t
+    → (world_after s g.joins c es).field ≡ replay air (changed s c).world.field es
 field_after s t g c es quiet front = (does_quietly s t g c es quiet front (world_at_start s g.joins c)).field
 
 -- So it leaves the links as the command itself does.

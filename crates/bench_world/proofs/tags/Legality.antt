@@ -134,7 +134,8 @@ abbrev pub above : Upon → Air Device → State
 above os a = state_at (beneath os a)
 
 -- in what is due in a command that keeps to tags no device hands anything over
-pub none_in : (c : Command) → (UsesFars c → ⊥) → (os : Upon) (old new : Air Device) (asked : List Signal) (ns : List Note) → (g : Going air (due (above os old) (asks_for asked) c) (moment old) (moment new) ns)
+pub none_in : (c : Command) → (UsesFars c → ⊥) → (os : Upon) (old new : Air Device) (asked : List Signal) (ns : List Note)
+    → (g : Going air (due (above os old) (asks_for asked) c) (moment old) (moment new) ns)
     → IsAskedBy (above os old) c asked → NoneHands devices (moment old).world g.events
 none_in c quiet os old new asked ns g asked_by = none_hand (above os old) (asks_for asked) c g.events quiet asked_by g.each g.fresh (moment old).world
 
@@ -147,7 +148,8 @@ abbrev pub plain_after : State → Command → List Event → State
 plain_after s c es = record { world = world_after s no_joins c es; queue = queue_after (changed s c).queue es; peers = (changed s c).peers; link = (changed s c).link }
 
 -- what was asked is a front of the command's step
-pub front_so : (told : Option Answer) (os : Upon) (old new : Air Device) (c : Command) (asked : List Signal) (ns : List Note) → IsIdle old → Accepts (above os old) c → changed (above os old) c ≡ above os old
+pub front_so : (told : Option Answer) (os : Upon) (old new : Air Device) (c : Command) (asked : List Signal) (ns : List Note) → IsIdle old → Accepts (above os old) c
+    → changed (above os old) c ≡ above os old
     → (g : Going air (due (above os old) (asks_for asked) c) (moment old) (moment new) ns) → IsAskedBy (above os old) c asked → NoneHands devices (moment old).world g.events
     → state_after (above os old) no_joins c g.events told ≡ plain_after (above os old) c g.events → FrontOf (above os old) (asks_for asked) c new.trace told (above os new)
 front_so told os old new c asked ns idle accepted still g asked_by none plain =
@@ -169,19 +171,22 @@ front_so told os old new c asked ns idle accepted still g asked_by none plain =
       turns = subst T (sym still) (q.turns.1 g.turns);
       fates = subst F (sym still) g.fates;
       each = g.each;
-      after = ap (λ w. S (seen device_linked peer_ends w os.ends []) new.fates os.peers) world ∙ ap (λ f. S (seen device_linked peer_ends (replay air (moment old).world es) os.ends []) f os.peers) queue
+      after = ap (λ w. S (seen device_linked peer_ends w os.ends []) new.fates os.peers) world
+          ∙ ap (λ f. S (seen device_linked peer_ends (replay air (moment old).world es) os.ends []) f os.peers) queue
           ∙ ap (λ w. S w (queue_after old.fates es) os.peers) (sym q.after)
           ∙ ap (λ (s : State). L (replay bench_air (with_numbers s.world []) es) (queue_after s.queue es) s.peers s.link) (sym still) ∙ sym plain;
     } in
     subst P (sym trace) front
 
-pub front_of : (told : Option Answer) (c : Command) → (UsesFars c → ⊥) → (os : Upon) (old new : Air Device) (asked : List Signal) (ns : List Note) → IsIdle old → Accepts (above os old) c → changed (above os old) c ≡ above os old
+pub front_of : (told : Option Answer) (c : Command) → (UsesFars c → ⊥) → (os : Upon) (old new : Air Device) (asked : List Signal) (ns : List Note) → IsIdle old → Accepts (above os old) c
+    → changed (above os old) c ≡ above os old
     → Going air (due (above os old) (asks_for asked) c) (moment old) (moment new) ns → IsAskedBy (above os old) c asked → FrontOf (above os old) (asks_for asked) c new.trace told (above os new)
 front_of told c quiet os old new asked ns idle accepted still g asked_by =
     front_so told os old new c asked ns idle accepted still g asked_by (none_in c quiet os old new asked ns g asked_by) (links_stay (above os old) no_joins c g.events told quiet)
 
 -- a command that asks, and changes nothing itself, whatever it may have changed of what stays
-pub asks_so : (what : Changes) (os : Upon) (old new : Air Device) (c : Command) (asked : List Signal) (ns : List Note) (answer : Answer) → IsIdle old → HasPlaces (beneath os old) → KeepsLink (beneath os new)
+pub asks_so : (what : Changes) (os : Upon) (old new : Air Device) (c : Command) (asked : List Signal) (ns : List Note) (answer : Answer) → IsIdle old → HasPlaces (beneath os old)
+    → KeepsLink (beneath os new)
     → Accepts (above os old) c → changed (above os old) c ≡ above os old
     → (g : Going air (due (above os old) (asks_for asked) c) (moment old) (moment new) ns) → due (above os old) (asks_for asked) c ns ≡ Over → IsAskedBy (above os old) c asked
     → NoneHands devices (moment old).world g.events → state_after (above os old) no_joins c g.events (Some answer) ≡ plain_after (above os old) c g.events
@@ -211,7 +216,8 @@ asks_so what os old new c asked ns answer idle places keeps accepted still g ove
       link = keeps;
     }
 
-pub asks_obeyed : (what : Changes) (c : Command) → (UsesFars c → ⊥) → (os : Upon) (old new : Air Device) (asked : List Signal) (ns : List Note) (answer : Answer) → IsIdle old → HasPlaces (beneath os old) → KeepsLink (beneath os new)
+pub asks_obeyed : (what : Changes) (c : Command) → (UsesFars c → ⊥) → (os : Upon) (old new : Air Device) (asked : List Signal) (ns : List Note) (answer : Answer) → IsIdle old
+    → HasPlaces (beneath os old) → KeepsLink (beneath os new)
     → Accepts (above os old) c → changed (above os old) c ≡ above os old
     → (g : Going air (due (above os old) (asks_for asked) c) (moment old) (moment new) ns) → due (above os old) (asks_for asked) c ns ≡ Over → IsAskedBy (above os old) c asked
     → AnswerLaw (above os old) (asks_for asked) c g.events answer
@@ -221,7 +227,8 @@ asks_obeyed what c quiet os old new asked ns answer idle places keeps accepted s
     (links_stay (above os old) no_joins c g.events (Some answer) quiet) law left
 
 -- all devices were searched for
-pub search_obeyed : (old new : Air Device) (r : Result Everybody PollFault) (answer : Answer) → IsIdle old → Searches (moment old) (moment new) r → TellsFound r answer → ObeyedUnlinked old new Find answer
+pub search_obeyed : (old new : Air Device) (r : Result Everybody PollFault) (answer : Answer) → IsIdle old → Searches (moment old) (moment new) r → TellsFound r answer
+    → ObeyedUnlinked old new Find answer
 search_obeyed old new r answer idle s told = λ ends peers places.
     let os : Upon = record { ends = ends; peers = peers; link = None } in
     let g : Going air (due (above os old) (asks_for []) Find) (moment old) (moment new) s.asked.notes = s.asked.going in
@@ -233,7 +240,8 @@ search_obeyed old new r answer idle s told = λ ends peers places.
     }) s.asked.same
 
 -- all Type 5 tags were searched for
-pub crowd_obeyed : (old new : Air Device) (r : Result (List (List ℕ)) PollFault) (answer : Answer) → IsIdle old → Crowds (moment old) (moment new) r → tags_answer r ≡ Some answer → ObeyedUnlinked old new Crowd answer
+pub crowd_obeyed : (old new : Air Device) (r : Result (List (List ℕ)) PollFault) (answer : Answer) → IsIdle old → Crowds (moment old) (moment new) r → tags_answer r ≡ Some answer
+    → ObeyedUnlinked old new Crowd answer
 crowd_obeyed old new r answer idle s told = λ ends peers places.
     let os : Upon = record { ends = ends; peers = peers; link = None } in
     let g : Going air (due (above os old) (asks_for []) Crowd) (moment old) (moment new) s.asked.notes = s.asked.going in
@@ -306,7 +314,8 @@ missed_tells Tells id asked old new e answer s is = record {
   noisy = λ six. absurd (never_six e answer is six);
 }
 
-pub missed_obeyed : (old new : Air Device) (id : DeviceId) (e : PollFault) (answer : Answer) → IsIdle old → Selects id (Err e) (moment old) (moment new) → poll_answer e ≡ Some answer → ObeyedUnlinked old new (Read id) answer
+pub missed_obeyed : (old new : Air Device) (id : DeviceId) (e : PollFault) (answer : Answer) → IsIdle old → Selects id (Err e) (moment old) (moment new) → poll_answer e ≡ Some answer
+    → ObeyedUnlinked old new (Read id) answer
 missed_obeyed old new id e answer idle s is = λ ends peers places.
     let os : Upon = record { ends = ends; peers = peers; link = None } in
     let some = asked_by old id idle in
@@ -356,7 +365,8 @@ module _ (id : DeviceId) (kind : SeenKind) (asked : List Signal) (a b c : Moment
   }
 
 -- no Break was used by the first events
-pub lost_behind : (answer : Answer) (first rest : List Event) → ((0 < breaks first) → ⊥) → (answer ≡ answers.FieldLost) ↔ (0 < breaks rest) → (answer ≡ answers.FieldLost) ↔ (0 < breaks (first ++ rest))
+pub lost_behind : (answer : Answer) (first rest : List Event) → ((0 < breaks first) → ⊥) → (answer ≡ answers.FieldLost) ↔ (0 < breaks rest) → (answer ≡ answers.FieldLost)
+    ↔ (0 < breaks (first ++ rest))
 lost_behind answer first rest none lost =
     let sum : breaks (first ++ rest) ≡ breaks first + breaks rest = breaks-append first rest in
     elim (cases_lt 0 (breaks first)) [
@@ -443,7 +453,8 @@ module _ (Tells : Device → Answer → Type 0) (old mid : Air Device) (id : Dev
   }
 
 -- a peer isn't read
-pub peer_obeyed : (old mid : Air Device) (id : DeviceId) (place : ℕ) (idle : IsIdle old) (s : SelectsAt id place (moment old) (moment mid)) → may_be_read s.device ≡ false → ObeyedUnlinked old mid (Read id) answers.WrongKind
+pub peer_obeyed : (old mid : Air Device) (id : DeviceId) (place : ℕ) (idle : IsIdle old) (s : SelectsAt id place (moment old) (moment mid)) → may_be_read s.device ≡ false
+    → ObeyedUnlinked old mid (Read id) answers.WrongKind
 peer_obeyed old mid id place idle s peer = λ ends peers places.
     let os : Upon = record { ends = ends; peers = peers; link = None } in
     let with_id : IsWith old.listeners (bytes_of id) (kept s.device) = selected_with old mid id place idle s in

@@ -21,7 +21,8 @@ use Rattle.bench_world.proofs.tags.Fronts.{stable_behind}
 use Rattle.bench_world.proofs.tags.Legality.{above, asks_for, asks_obeyed, front_of, none_in, part_stays, stores_stay}
 use Rattle.bench_world.proofs.devices.Placed.{Upon}
 
-pub sense_obeyed : (old new : Air Device) (r : Result Fcrowd PollFault) (answer : Answer) → IsIdle old → Senses (moment old) (moment new) r → sensed_answer r ≡ Some answer → ObeyedUnlinked old new Poll3 answer
+pub sense_obeyed : (old new : Air Device) (r : Result Fcrowd PollFault) (answer : Answer) → IsIdle old → Senses (moment old) (moment new) r → sensed_answer r ≡ Some answer
+    → ObeyedUnlinked old new Poll3 answer
 sense_obeyed old new r answer idle s told = λ ends peers places.
     let os : Upon = record { ends = ends; peers = peers; link = None } in
     let g : Going air (due (above os old) (asks_for []) Poll3) (moment old) (moment new) s.asked.notes = s.asked.going in

@@ -32,7 +32,8 @@ use Rattle.bench_world.proofs.devices.WellStored.{with_all}
 abbrev start : State → Moment BenchWorld
 start s = record { world = s.world.field; queue = s.queue; trace = [] }
 
-module _ (s t : State) (g : Given) (line : List ℕ) (e : Entry) (r : IsReady s.world.field.listeners) (well : AreWellStored s.world.field.listeners) (sp : Spells line e.command) (step : LegalStep s g e t)
+module _ (s t : State) (g : Given) (line : List ℕ) (e : Entry) (r : IsReady s.world.field.listeners) (well : AreWellStored s.world.field.listeners) (sp : Spells line e.command)
+    (step : LegalStep s g e t)
     (pass : AllPass (changed s e.command).queue) where
   abbrev ds : List Device
   ds = s.world.field.listeners
@@ -41,7 +42,8 @@ module _ (s t : State) (g : Given) (line : List ℕ) (e : Entry) (r : IsReady s.
   Heeds id = ((has_three id ds ≡ true) × AllByRecursion (IsHeeded id) g.asked) ⊎ (g.asked ≡ [])
 
   -- the tag that is placed heeds what is asked of it, and nothing is asked of what is none
-  heeds : (id : List ℕ) (P : Device → Type 0) → ((d : Device) → device_with id ds ≡ Some d → kind_of d ≡ T3Kind → P d → AllByRecursion (IsHeeded id) g.asked) → (o : Option Device) → device_with id ds ≡ o
+  heeds : (id : List ℕ) (P : Device → Type 0) → ((d : Device) → device_with id ds ≡ Some d → kind_of d ≡ T3Kind → P d → AllByRecursion (IsHeeded id) g.asked) → (o : Option Device)
+      → device_with id ds ≡ o
       → IfPlaced (λ d. IfThree (kind_of d) (P d) (g.asked ≡ [])) (g.asked ≡ []) o → Heeds id
   heeds id P each None found asks = inr asks
   heeds id P each (Some d) found asks = by_kind (kind_of d) refl asks
@@ -56,7 +58,8 @@ module _ (s t : State) (g : Given) (line : List ℕ) (e : Entry) (r : IsReady s.
   stored : (id : List ℕ) (d : Device) → device_with id ds ≡ Some d → kind_of d ≡ T3Kind → IsT3Store (device_store d)
   stored id d found kind = of_three (kind_of d) kind _ (Unit {0}) (with_all IsWellStored id ds d well found)
 
-  three_answered : (id : List ℕ) → length id ≡ 8 → (UsesFars e.command → ⊥) → (changed s e.command).queue ≡ s.queue → (changed s e.command).world.field ≡ s.world.field → due s g e.command ≡ three_due id g.asked → Heeds id
+  three_answered : (id : List ℕ) → length id ≡ 8 → (UsesFars e.command → ⊥) → (changed s e.command).queue ≡ s.queue → (changed s e.command).world.field ≡ s.world.field
+      → due s g e.command ≡ three_due id g.asked → Heeds id
       → AnswersSought id e
   three_answered id size quiet queue same next heeded behind told =
       three_hears id size g.asked (start s) r.tame.sound heeded e.events (subst (λ q. AllPass q) queue pass)

@@ -49,7 +49,8 @@ begins_with made told good b = sym (take-append-drop good made) ∙ ap (λ es. e
 module _ (s u : State) (between : IsBetweenCommands s) (c : Command) (shows : MayShow s c) (h : Given) (e : Entry) (step : LegalStep s h e u) (asked : e.command ≡ c)
     (told : List Event) (shown : h.joins ≡ shown_of s c told) where
   -- one of an alike state that begins with some of them has its events begin so
-  same_front : (t v : State) (g : Given) (f : Entry) (es more rest : List Event) → told ≡ es ++ more → Alike s t → LegalStep t g f v → f.command ≡ c → f.events ≡ es ++ rest → BeginsSame es rest e.events
+  same_front : (t v : State) (g : Given) (f : Entry) (es more rest : List Event) → told ≡ es ++ more → Alike s t → LegalStep t g f v → f.command ≡ c → f.events ≡ es ++ rest
+      → BeginsSame es rest e.events
   same_front t v g f es more rest split alike legal same begins =
       let k = alike_steps t s v g f (alike_back s t alike) legal in
       numbers_show s k.0 u g h f e es rest more between (subst (MayShow s) (sym same) shows) k.1 begins step (asked ∙ sym same)

@@ -220,7 +220,8 @@ module _ (r : Result Everybody PollFault) (answer : Answer) (told : TellsFound r
   told_end : (end : Result Everybody PollFault) → r ≡ end → TellsFound end answer
   told_end end is = subst (λ x. TellsFound x answer) is told
 
-  inventory_told : (ds : List Device) (cards : List Picked) (others : Result Vcrowd PollFault) (es : List Event) → InventoryEnds IsEnd ds cards others es r → InventoryEnds TellsFound ds cards others es answer
+  inventory_told : (ds : List Device) (cards : List Picked) (others : Result Vcrowd PollFault) (es : List Event) → InventoryEnds IsEnd ds cards others es r
+      → InventoryEnds TellsFound ds cards others es answer
   inventory_told ds cards (Ok others) es h = (h.0, told_end (Ok (record { cards = cards; others = others })) h.1)
   inventory_told ds cards (Err faults.Nobody) es h = absurd h
   inventory_told ds cards (Err faults.Disturbed) es h = (told_end (Err faults.Disturbed) h.0, h.1)

@@ -41,7 +41,8 @@ use Rattle.bench_devices.specs.Polling as polls
 use Rattle.bench_devices.specs.Polling.{Followed, Told, asks}
 use Rattle.bench_devices.specs.Sensing.{IsThree, SeekingCut, Seeks, SeeksAt, found_if, has_three, seeking, HasSought}
 use Rattle.bench_devices.specs.ThreeAsking.{then_three, three_due}
-use Rattle.bench_devices.specs.Threes.{FailsThree, KeepsWrite3Law, ReadAsksThree, ReadsThree, ShowsThree, ShowsThreeWriteOf, StandsThree, WriteAsksThree, WriteAsksThreeOf, Write3Law, WritesThree, WritesThreeSome, AsksThreeSome}
+use Rattle.bench_devices.specs.Threes.{FailsThree, KeepsWrite3Law, ReadAsksThree, ReadsThree, ShowsThree, ShowsThreeWriteOf, StandsThree, WriteAsksThree, WriteAsksThreeOf, Write3Law, WritesThree}
+use Rattle.bench_devices.specs.Threes.{WritesThreeSome, AsksThreeSome}
 use Rattle.bench_devices.proofs.kinds.EveryFrame.{IsSoundOne, leaves_behind, leaves_more}
 use Rattle.bench_devices.proofs.finding.Following.{ToldOn, told_on}
 use Rattle.bench_devices.proofs.kinds.ImagesJoin.{images_still, with_alone}
@@ -54,7 +55,8 @@ use Rattle.bench_world.specs.declared.entry.Answer.TheVariants as answers
 use Rattle.bench_world.specs.Answering.{TellsFault, poll_answer}
 use Rattle.bench_world.specs.Legal.{Stores3Law, no_joins}
 use Rattle.bench_world.specs.Obeying.{CutOffUnlinked, ObeyedUnlinked}
-use Rattle.bench_world.specs.Threes.{AreWellStored, CutThree, IfThree, IsWellStored, KeepsStores3, ReadAsks3, ReadEnd3, TellsEnd3, TellsForm3, TellsRead3, TellsWrite3, ThreeEnds, ThreeTells, WriteAsks3, WriteEnd3, end_told, told_three, written_three}
+use Rattle.bench_world.specs.Threes.{AreWellStored, CutThree, IfThree, IsWellStored, KeepsStores3, ReadAsks3, ReadEnd3, TellsEnd3, TellsForm3, TellsRead3, TellsWrite3, ThreeEnds, ThreeTells}
+use Rattle.bench_world.specs.Threes.{WriteAsks3, WriteEnd3, end_told, told_three, written_three}
 use Rattle.bench_world.proofs.tags.Fronts.{ends_behind, field_behind, stable_behind}
 use Rattle.bench_world.proofs.tags.Legality.{above, asks_for, asks_obeyed, front_of, lost_behind, none_in, part_stays, stores_stay, trace_is, never_six}
 use Rattle.bench_world.proofs.devices.Placed.{Upon}
@@ -363,7 +365,8 @@ module _ (old mid : Air Device) (id : List ℕ) (place : ℕ) (idle : IsIdle old
   cut_three what IsAll new r =
       let hs : List Note = s.seeks.asked.notes in
       let ks : List Note = r.asked.notes in
-      let g : Going air (three_due id r.commands) (moment old) (moment new) (hs ++ ks) = both_three id r.commands (moment old) (moment mid) (moment new) hs ks told_here s.seeks.asked.going r.asked.going in
+      let g : Going air (three_due id r.commands) (moment old) (moment new) (hs ++ ks) = both_three id r.commands (moment old) (moment mid) (moment new) hs ks told_here s.seeks.asked.going
+      r.asked.going in
       let trace : new.trace ≡ g.events = trace_is old new (three_due id r.commands) (hs ++ ks) g idle in
       let none : breaks s.seeks.asked.going.events ≡ 0 = elim (cases_lt 0 (breaks s.seeks.asked.going.events)) [
         | inl some ↦ absurd (let is : ◌≡◌ {A = Result (Unit {0}) PollFault} (Ok tt) (Err faults.FieldLost) = s.seeks.lost.1 some in cc)
@@ -376,7 +379,8 @@ module _ (old mid : Air Device) (id : List ℕ) (place : ℕ) (idle : IsIdle old
         unlost = ap breaks trace ∙ omega (arith, breaks-append s.seeks.asked.going.events r.asked.going.events, none, r.unlost);
       })
 
-  abbrev of_both' : (new : Air Device) (commands : List Signal) (ks : List Note) → Going air (waits_next commands) (moment mid) (moment new) ks → Going air (three_due id commands) (moment old) (moment new) (s.seeks.asked.notes ++ ks)
+  abbrev of_both' : (new : Air Device) (commands : List Signal) (ks : List Note) → Going air (waits_next commands) (moment mid) (moment new) ks
+      → Going air (three_due id commands) (moment old) (moment new) (s.seeks.asked.notes ++ ks)
   of_both' new commands ks h = both_three id commands (moment old) (moment mid) (moment new) s.seeks.asked.notes ks told_here s.seeks.asked.going h
 
   over_here : (commands : List Signal) (ks : List Note) → waits_next commands ks ≡ Over → three_due id commands (s.seeks.asked.notes ++ ks) ≡ Over
@@ -387,7 +391,8 @@ module _ (old mid : Air Device) (id : List ℕ) (place : ℕ) (idle : IsIdle old
   read_placed commands asks' =
       if_placed (λ (k : Kept). IfThree k.fixed.kind (ReadAsksThree id k.store commands) (commands ≡ [])) (commands ≡ []) (as_three (kind_of s.device) kind_here _ _ asks')
 
-  pub read_obeyed_three : (new : Air Device) (r : ReadEnd3) (answer : Answer) → told_three r ≡ Some answer → ReadsThree id (moment mid) (moment new) s.device r → ObeyedUnlinked old new (Read3 id) answer
+  pub read_obeyed_three : (new : Air Device) (r : ReadEnd3) (answer : Answer) → told_three r ≡ Some answer → ReadsThree id (moment mid) (moment new) s.device r
+      → ObeyedUnlinked old new (Read3 id) answer
   read_obeyed_three new r answer told reads = λ ends peers places.
       let os : Upon = record { ends = ends; peers = peers; link = None } in
       let ks : List Note = reads.asked.notes in
@@ -419,7 +424,8 @@ module _ (old mid : Air Device) (id : List ℕ) (place : ℕ) (idle : IsIdle old
       )
 
   -- it was written
-  write_placed : (message : List ℕ) (commands : List Signal) → WriteAsksThreeOf id message s.device commands → IfPlaced (λ d. WriteAsks3 id message d commands) (commands ≡ []) (device_with id old.listeners)
+  write_placed : (message : List ℕ) (commands : List Signal) → WriteAsksThreeOf id message s.device commands
+      → IfPlaced (λ d. WriteAsks3 id message d commands) (commands ≡ []) (device_with id old.listeners)
   write_placed message commands asks' =
       if_placed (λ (k : Kept). IfThree k.fixed.kind (WriteAsksThree id k.store k.fixed.locked message commands) (commands ≡ [])) (commands ≡ []) (as_three (kind_of s.device) kind_here _ _ asks')
 
@@ -448,7 +454,8 @@ module _ (old mid : Air Device) (id : List ℕ) (place : ℕ) (idle : IsIdle old
       let world : (moment new).world ≡ replay air (moment old).world es = ap (λ (x : Moment BenchWorld). x.world) (of_both' new commands ks h).moment in
       record {
         law = if_placed
-            (λ (k : Kept). IfThree k.fixed.kind (Write3Law message k.store r (images_of k.fixed.id (moment old).world es)) (AllByRecursion (λ x. x ≡ k.store) (images_of k.fixed.id (moment old).world es)))
+            (λ (k : Kept). IfThree k.fixed.kind (Write3Law message k.store r (images_of k.fixed.id (moment old).world es))
+            (AllByRecursion (λ x. x ≡ k.store) (images_of k.fixed.id (moment old).world es)))
             (Unit {0}) (as_three (kind_of s.device) kind_here _ _ whole);
         others = subst (λ (w : BenchWorld). AllKeepBut id old.listeners w.listeners) world (left_behind new h.events left).0;
       }
@@ -464,12 +471,14 @@ module _ (old mid : Air Device) (id : List ℕ) (place : ℕ) (idle : IsIdle old
       let g : Going air (three_due id commands) (moment old) (moment new) ns = of_both' new commands ks w.told.asked.going in
       let asked = write_placed message commands w.told.asks in
       let says : ShowsThreeWriteOf message s.device r → OfPlaced (λ d. TellsWrite3 message d answer) (device_with id old.listeners) =
-      λ shows. of_placed (λ (k : Kept). IfThree k.fixed.kind (TellsEnd3 message k.store k.fixed.locked answer) ⊥) (as_three (kind_of s.device) kind_here _ _ (record { end = r; shows = shows; told = told })) in
+      λ shows. of_placed (λ (k : Kept). IfThree k.fixed.kind (TellsEnd3 message k.store k.fixed.locked answer) ⊥)
+      (as_three (kind_of s.device) kind_here _ _ (record { end = r; shows = shows; told = told })) in
       let none : NoneHands devices (moment old).world g.events = none_in (Write3 id m) (λ h. h) os old new commands ns g asked in
       let law : KeepsWrite3Law message s.device (end_told answer) (moment mid).world w.told.asked.going.events = law_as message (device_store s.device) _ r answer told w.law in
       asks_obeyed (StoreOf id) (Write3 id m) (λ h. h) os old new commands ns answer idle places tt tt refl g (over_here commands ks w.told.asked.over) asked
       (record {
-        tells = three_behind (StoreOf (device_id s.device)) (WriteAsksThreeOf id message s.device) (ShowsThreeWriteOf message s.device) FailsThree (TellsWrite3 message) old mid new id place r answer s w.told says
+        tells = three_behind (StoreOf (device_id s.device)) (WriteAsksThreeOf id message s.device) (ShowsThreeWriteOf message s.device) FailsThree (TellsWrite3 message) old mid new id place r answer s
+            w.told says
             (fails_write r answer told) (lost_write r answer told) (six_write r answer told);
         stores = stores_above os old id m (end_told answer) g.events none (stores_behind new message commands ks w.told.asked.going (end_told answer) w.told.asked.same law);
       }) (left_behind new w.told.asked.going.events w.told.asked.same)
@@ -491,7 +500,8 @@ module _ (old mid : Air Device) (id : List ℕ) (place : ℕ) (idle : IsIdle old
       )
 
 -- No tag was selected, ...
-pub missed_read_three : (old new : Air Device) (id : List ℕ) (e : PollFault) (answer : Answer) → IsIdle old → AreWellStored old.listeners → Seeks id (Err e) (moment old) (moment new) → poll_answer e ≡ Some answer
+pub missed_read_three : (old new : Air Device) (id : List ℕ) (e : PollFault) (answer : Answer) → IsIdle old → AreWellStored old.listeners → Seeks id (Err e) (moment old) (moment new)
+    → poll_answer e ≡ Some answer
     → ObeyedUnlinked old new (Read3 id) answer
 missed_read_three old new id e answer idle well s is = λ ends peers places.
     let os : Upon = record { ends = ends; peers = peers; link = None } in
@@ -515,7 +525,8 @@ missed_write_three old new id m e answer idle well s is = λ ends peers places.
     let g : Going air (λ ns. asks (seeking id ns)) (moment old) (moment new) s.asked.notes = s.asked.going in
     let going : Going air (three_due id some.0) (moment old) (moment new) s.asked.notes = sought_of id some.0 (moment old) (moment new) s.asked.notes g in
     let over : three_due id some.0 s.asked.notes ≡ Over =
-    ap (then_three some.0) s.told ∙ over_missed some.0 (has_three id old.listeners) s.heard e s.is (none_asked (λ d asked. WriteAsksThreeOf id (message_of m) d asked) id old.listeners some.0 some.1) in
+    ap (then_three some.0) s.told ∙ over_missed some.0 (has_three id old.listeners) s.heard e s.is
+    (none_asked (λ d asked. WriteAsksThreeOf id (message_of m) d asked) id old.listeners some.0 some.1) in
     let sound : IsSoundOne id old.listeners = sound_one id old idle in
     let none : NoneHands devices (moment old).world g.events = none_in (Write3 id m) (λ h. h) os old new some.0 s.asked.notes going some.1 in
     asks_obeyed (StoreOf id) (Write3 id m) (λ h. h) os old new some.0 s.asked.notes answer idle places tt tt refl going over some.1

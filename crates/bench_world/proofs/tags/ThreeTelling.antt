@@ -191,7 +191,8 @@ may_write id old new d message (Err fault.Unfinished) writes =
     absurd (let w = writes (λ e. cc) in tells_either (ShowsThreeWriteOf message d) FailsThree (Err fault.Unfinished) ⊥ (λ s. s) write_unfinished seen.T2 w.told.commands w.told.asked.notes w.told.ends)
 
 -- What the law of a write leaves is told alike.
-leaves_as : (message old : List ℕ) (stores : List (List ℕ)) (r : WriteEnd3) (answer : Answer) → written_three r ≡ Some answer → LeavesThree message old stores r → LeavesThree message old stores (end_told answer)
+leaves_as : (message old : List ℕ) (stores : List (List ℕ)) (r : WriteEnd3) (answer : Answer) → written_three r ≡ Some answer → LeavesThree message old stores r
+    → LeavesThree message old stores (end_told answer)
 leaves_as message old stores (Ok x) answer t h = subst (λ a. LeavesThree message old stores (end_told a)) (some_answer answers.Written answer t) h
 leaves_as message old stores (Err fault.NotNdef) answer t h = subst (λ a. LeavesThree message old stores (end_told a)) (some_answer answers.NotNdef answer t) h
 leaves_as message old stores (Err fault.Version) answer t h = subst (λ a. LeavesThree message old stores (end_told a)) (some_answer answers.Version answer t) h
@@ -205,7 +206,8 @@ leaves_as message old stores (Err (fault.TooLong most)) answer t h = subst (λ a
 leaves_as message old stores (Err fault.Protocol) answer t h = absurd (no_answer answer t)
 leaves_as message old stores (Err fault.Unfinished) answer t h = absurd (no_answer answer t)
 
-pub law_as : (message old : List ℕ) (stores : List (List ℕ)) (r : WriteEnd3) (answer : Answer) → written_three r ≡ Some answer → Write3Law message old r stores → Write3Law message old (end_told answer) stores
+pub law_as : (message old : List ℕ) (stores : List (List ℕ)) (r : WriteEnd3) (answer : Answer) → written_three r ≡ Some answer → Write3Law message old r stores
+    → Write3Law message old (end_told answer) stores
 law_as message old stores r answer t law = record { three = law.three; leaves = leaves_as message old stores r answer t law.leaves }
 
 -- A store is told in one way: it has one form.
@@ -242,7 +244,8 @@ form_of store (Err fault.Unfinished) answer shows told = record { form = form.Un
 -- the form that a message tells, and what an unfinished write does
 pub message_form : (store m : List ℕ) (w : Bool) → TellsForm3 store (answers.Message m w) → IsT3Form store (form.Message m)
 unfolding form_told
-message_form store m w t = by_form (form_of store t.end (answers.Message m w) t.shows t.told).form (form_of store t.end (answers.Message m w) t.shows t.told).is (form_of store t.end (answers.Message m w) t.shows t.told).told
+message_form store m w t = by_form (form_of store t.end (answers.Message m w) t.shows t.told).form (form_of store t.end (answers.Message m w) t.shows t.told).is
+    (form_of store t.end (answers.Message m w) t.shows t.told).told
   where
     by_form : (f : T3Form) → IsT3Form store f → form_told f (is_writable store) ≡ Some (answers.Message m w) → IsT3Form store (form.Message m)
     by_form form.NotNdef is e = absurd cc
@@ -253,7 +256,8 @@ message_form store m w t = by_form (form_of store t.end (answers.Message m w) t.
 
 pub begun_form : (store : List ℕ) → TellsForm3 store answers.Unfinished → IsT3Form store form.Unfinished
 unfolding form_told
-begun_form store t = by_form (form_of store t.end answers.Unfinished t.shows t.told).form (form_of store t.end answers.Unfinished t.shows t.told).is (form_of store t.end answers.Unfinished t.shows t.told).told
+begun_form store t = by_form (form_of store t.end answers.Unfinished t.shows t.told).form (form_of store t.end answers.Unfinished t.shows t.told).is
+    (form_of store t.end answers.Unfinished t.shows t.told).told
   where
     by_form : (f : T3Form) → IsT3Form store f → form_told f (is_writable store) ≡ Some answers.Unfinished → IsT3Form store form.Unfinished
     by_form form.NotNdef is e = absurd cc

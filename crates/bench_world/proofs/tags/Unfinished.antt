@@ -87,7 +87,8 @@ nothing_written_three s id m = record {
         holds : held_by (device_with (device_id d) s.world.field.listeners) ≡ device_store d
         holds = ap (λ i. held_by (device_with i s.world.field.listeners)) (found_named id s.world.field.listeners d found) ∙ ap held_by found
 
-        by_kind : (k : DeviceKind) → IfThree k (KeepsWrite3Law (message_of m) d (Err fault.Memory) s.world.field []) (AllByRecursion (λ x. x ≡ device_store d) (images_of (device_id d) s.world.field []))
+        by_kind : (k : DeviceKind) → IfThree k (KeepsWrite3Law (message_of m) d (Err fault.Memory) s.world.field [])
+            (AllByRecursion (λ x. x ≡ device_store d) (images_of (device_id d) s.world.field []))
         by_kind T2Kind = (holds, tt)
         by_kind T3Kind = law_still (message_of m) (device_store d) (images_of (device_id d) s.world.field []) (holds, tt)
         by_kind T4Kind = (holds, tt)
@@ -113,7 +114,8 @@ front_written s t g id m cut front stores =
       others = subst (λ (w : WholeWorld). AllKeepBut (bytes_of id) s.world.field.listeners w.field.listeners) (sym there) stores.others;
     }
 
-front_written_three : (s t : State) (g : Given) (id : List ℕ) (m : Msg) (cut : List Event) → FrontOf s g (Write3 id m) cut None t → Stores3Law s g.joins id m (Err fault.Memory) cut → Write3Unfinished s id m cut t
+front_written_three : (s t : State) (g : Given) (id : List ℕ) (m : Msg) (cut : List Event) → FrontOf s g (Write3 id m) cut None t → Stores3Law s g.joins id m (Err fault.Memory) cut
+    → Write3Unfinished s id m cut t
 front_written_three s t g id m cut front stores =
     let there : t.world ≡ world_after s g.joins (Write3 id m) cut = ap (λ (x : State). x.world) front.after in
     let on_air : (world_after s g.joins (Write3 id m) cut).field ≡ replay air s.world.field cut = field_after s t g (Write3 id m) cut (λ h. h) front in
@@ -128,10 +130,12 @@ front_written_three s t g id m cut front stores =
 abbrev DevicesStay : State → State → Type 0
 DevicesStay s t = map stable_of t.world.field.listeners ≡ map stable_of s.world.field.listeners
 
-front_stays : (s t : State) (g : Given) (c : Command) (cut : List Event) → FrontOf s g c cut None t → map stable_of (world_after s g.joins c cut).field.listeners ≡ map stable_of s.world.field.listeners → DevicesStay s t
+front_stays : (s t : State) (g : Given) (c : Command) (cut : List Event) → FrontOf s g c cut None t
+    → map stable_of (world_after s g.joins c cut).field.listeners ≡ map stable_of s.world.field.listeners → DevicesStay s t
 front_stays s t g c cut front stays = ap (λ (x : State). map stable_of x.world.field.listeners) front.after ∙ stays
 
-call_stays : (s : State) (joins : Joins) (asked : LinkAsking) (c : Command) (cut : List Event) (o : Option OpenLink) → changed s c ≡ s → IfLinked o (λ l. CutCall s joins l asked c cut) (LeavesStable s joins c cut)
+call_stays : (s : State) (joins : Joins) (asked : LinkAsking) (c : Command) (cut : List Event) (o : Option OpenLink) → changed s c ≡ s
+    → IfLinked o (λ l. CutCall s joins l asked c cut) (LeavesStable s joins c cut)
     → map stable_of (world_after s joins c cut).field.listeners ≡ map stable_of s.world.field.listeners
 call_stays s joins asked c cut None still stays = ap (λ (z : Stable). z.devices) stays ∙ ap (λ (x : State). map stable_of x.world.field.listeners) still
 call_stays s joins asked c cut (Some l) still call = call.devices
@@ -156,7 +160,8 @@ front_left s t g (Put m) cut front stores = front_stays s t g (Put m) cut front 
 front_left s t g (Get most key) cut front stores = front_stays s t g (Get most key) cut front (call_stays s g.joins (Does (Getting client_sap most key)) (Get most key) cut s.link refl stores)
 front_left s t g (Lookup name) cut front stores = front_stays s t g (Lookup name) cut front (call_stays s g.joins (Does (Finding name)) (Lookup name) cut s.link refl stores)
 front_left s t g (OnPut slot m) cut front stores = front_stays s t g (OnPut slot m) cut front (call_stays s g.joins (Does (put_from slot (message_of m))) (OnPut slot m) cut s.link refl stores)
-front_left s t g (OnGet slot most key) cut front stores = front_stays s t g (OnGet slot most key) cut front (call_stays s g.joins (Does (Getting (sap_of_slot slot) most key)) (OnGet slot most key) cut s.link refl stores)
+front_left s t g (OnGet slot most key) cut front stores = front_stays s t g (OnGet slot most key) cut front
+    (call_stays s g.joins (Does (Getting (sap_of_slot slot) most key)) (OnGet slot most key) cut s.link refl stores)
 front_left s t g (Puts puts) cut front stores = front_stays s t g (Puts puts) cut front (call_stays s g.joins (Does (Putting (slot_messages puts))) (Puts puts) cut s.link refl stores)
 front_left s t g Unlink cut front stores = front_stays s t g Unlink cut front (call_stays s g.joins Closes Unlink cut s.link refl stores)
 front_left s t g c cut front stores = absurd stores

@@ -42,7 +42,8 @@ use Rattle.far_air.specs.Quietly.{NoneHands}
 use Rattle.bench_world.proofs.tags.Fronts.{field_behind, ends_behind}
 use Rattle.bench_world.proofs.devices.Placed.{Upon}
 use Rattle.bench_world.proofs.devices.Placing.{IsWith, with_sound}
-use Rattle.bench_world.proofs.tags.Legality.{asks_for, above, none_in, front_of, trace_is, asks_obeyed, polled_of, missed_tells, both, then_tag, selected_with, peer_going, peer_over, peer_tells, cut_tag, polled_tag}
+use Rattle.bench_world.proofs.tags.Legality.{asks_for, above, none_in, front_of, trace_is, asks_obeyed, polled_of, missed_tells, both, then_tag, selected_with, peer_going, peer_over, peer_tells}
+use Rattle.bench_world.proofs.tags.Legality.{cut_tag, polled_tag}
 use Rattle.bench_world.proofs.tags.AskedBehind.{tells_behind}
 use Rattle.bench_world.proofs.tags.WriteTelling.{asks_same, outcome_same, law_same, fails_written, lost_written, six_written, same_ending}
 
@@ -90,7 +91,8 @@ stores_above os a id m ending es none s = record {
 }
 
 -- Polling alone left a device's store as it was, so it keeps the law of a write that was stopped.
-module _ (id : DeviceId) (message : List ℕ) (a b : Moment BenchWorld) (ns : List Note) (g : Going air (λ ks. asks (selecting id ks)) a b ns) (same : map kept b.world.listeners ≡ map kept a.world.listeners) where
+module _ (id : DeviceId) (message : List ℕ) (a b : Moment BenchWorld) (ns : List Note) (g : Going air (λ ks. asks (selecting id ks)) a b ns)
+    (same : map kept b.world.listeners ≡ map kept a.world.listeners) where
   polled_law : (o : Option Device) → device_with (bytes_of id) a.world.listeners ≡ o → IfPlaced (λ d. KeepsStores message d Stopped a.world g.events) (Unit {0}) o
   polled_law None found = tt
   polled_law (Some d) found =
@@ -168,7 +170,8 @@ module _ (old mid : Air Device) (id : DeviceId) (m : Msg) (place : ℕ) (idle : 
 
   -- the stores, from before it was selected on
   stores_behind : (new : Air Device) (commands : List Signal) (ks : List Note) (h : Going air (tag_next (seen_of s.device) commands) (moment mid) (moment new) ks) (ending : Ending)
-      → may_be_read s.device ≡ true → LeavesDevices (StoreOf (device_id s.device)) (moment mid).world h.events (moment new).world → KeepsWriteLaw (message_of m) s.device ending (moment mid).world h.events
+      → may_be_read s.device ≡ true → LeavesDevices (StoreOf (device_id s.device)) (moment mid).world h.events (moment new).world
+      → KeepsWriteLaw (message_of m) s.device ending (moment mid).world h.events
       → FieldStores (moment old).world (bytes_of id) (message_of m) ending (s.selects.asked.going.events ++ h.events)
   stores_behind new commands ks h ending tag left law =
       let es : List Event = s.selects.asked.going.events in
@@ -177,12 +180,14 @@ module _ (old mid : Air Device) (id : DeviceId) (m : Msg) (place : ℕ) (idle : 
       let world : (moment new).world ≡ replay air (moment old).world (es ++ h.events) = ap (λ (x : Moment BenchWorld). x.world) (of_both new commands ks h).moment in
       record {
         law = subst (λ o. IfPlaced (λ d. KeepsStores (message_of m) d ending (moment old).world (es ++ h.events)) (Unit {0}) o) (sym with_id.found)
-            (as_read with_id.device (same_read with_id.device s.device (sym same_kind) ∙ tag) _ _ (law_same s.device with_id.device (sym with_id.same) (message_of m) ending (moment old).world (es ++ h.events) whole));
+            (as_read with_id.device (same_read with_id.device s.device (sym same_kind) ∙ tag) _ _ (law_same s.device with_id.device (sym with_id.same) (message_of m) ending (moment old).world
+            (es ++ h.events) whole));
         others = subst (λ (w : BenchWorld). AllKeepBut (bytes_of id) old.listeners w.listeners) world (left_behind new h.events left).0;
       }
 
   -- it was written
-  pub write_obeyed : (new : Air Device) (r : WriteEnd) (answer : Answer) → written_by r ≡ Some answer → may_be_read s.device ≡ true → Writes (moment mid) (moment new) s.device (message_of m) r → ObeyedUnlinked old new (Write id m) answer
+  pub write_obeyed : (new : Air Device) (r : WriteEnd) (answer : Answer) → written_by r ≡ Some answer → may_be_read s.device ≡ true → Writes (moment mid) (moment new) s.device (message_of m) r
+      → ObeyedUnlinked old new (Write id m) answer
   write_obeyed new r answer told tag w = λ ends peers places.
       let os : Upon = record { ends = ends; peers = peers; link = None } in
       let commands : List Signal = w.told.commands in
@@ -192,7 +197,8 @@ module _ (old mid : Air Device) (id : DeviceId) (m : Msg) (place : ℕ) (idle : 
       λ shows. subst (λ o. OfPlaced (λ d. TellsWrite (message_of m) d answer) o) (sym with_id.found)
       (as_read with_id.device (same_read with_id.device s.device (sym same_kind) ∙ tag) _ _ (r, outcome_same s.device with_id.device (sym with_id.same) (message_of m) r shows, told)) in
       let tells : TagTells (TellsWrite (message_of m)) id old.listeners commands g.events answer =
-      tells_behind (StoreOf (device_id s.device)) (AsksWriteOf (message_of m) s.device) (ShowsWrite (message_of m) s.device) FailsWrite (TellsWrite (message_of m)) old mid new id place r answer s w.told
+      tells_behind (StoreOf (device_id s.device)) (AsksWriteOf (message_of m) s.device) (ShowsWrite (message_of m) s.device) FailsWrite (TellsWrite (message_of m)) old mid new id place r answer s
+      w.told
       says (fails_written r answer told) (lost_written r answer told) (six_written r answer told) in
       let asked = placed_write commands (as_read s.device tag _ _ w.told.asks) in
       let none : NoneHands devices (moment old).world g.events = none_in (Write id m) (λ h. h) os old new commands (s.selects.asked.notes ++ ks) g asked in

@@ -45,18 +45,24 @@ told_sent (Ok (Err why)) = told_cause why
 told_sent (Err why) = told_cause why
 
 -- over a link that is open payloads were exchanged, up to their end or by what it was cut off
-abbrev pub Exchanges : List (List ℕ) → Air Device → InitState → Choosing FarEnd → Air Device → InitState → Choosing FarEnd → Result (List (List ℕ)) EndCause → Type 0
-Exchanges payloads old i far new j after (Ok replies) = IsWalked ghosts device_end by_hand (sending payloads []) old i far new j after replies
-Exchanges payloads old i far new j after (Err why) = IsWalkCut ghosts device_end by_hand (sending payloads []) old i far new j after why
+abbrev pub Exchanges : List (List ℕ) → Air Device → InitState → Choosing FarEnd → Air Device → InitState
+    → Choosing FarEnd → Result (List (List ℕ)) EndCause → Type 0
+Exchanges payloads old i far new j after (Ok replies) =
+    IsWalked ghosts device_end by_hand (sending payloads []) old i far new j after replies
+Exchanges payloads old i far new j after (Err why) = IsWalkCut ghosts device_end by_hand (sending payloads []) old i far
+    new j after why
 
 -- what was done behind ATR_REQ, by what came of that
-abbrev pub GoesBehind : List (List ℕ) → Air Device → Choosing FarEnd → Result (InitState × ArrayVec ℕ) EndCause → Air Device → Choosing FarEnd → Sent → Type 0
-GoesBehind payloads mid half (Ok p) new after (Ok came) = (j : InitState) × Exchanges payloads mid p.0 half new j after came
+abbrev pub GoesBehind : List (List ℕ) → Air Device → Choosing FarEnd → Result (InitState × ArrayVec ℕ) EndCause
+    → Air Device → Choosing FarEnd → Sent → Type 0
+GoesBehind payloads mid half (Ok p) new after (Ok came) =
+    (j : InitState) × Exchanges payloads mid p.0 half new j after came
 GoesBehind payloads mid half (Ok p) new after (Err why) = ⊥
 GoesBehind payloads mid half (Err why) new after sent = (sent ≡ Err why) × (new ≡ mid) × (after ≡ half)
 
 -- ATR_REQ was asked of a peer, and then the payloads were sent.
-pub record SendsAll (old : Air Device) (far : Choosing FarEnd) (payloads : List (List ℕ)) (new : Air Device) (after : Choosing FarEnd) (sent : Sent) : Type 0 where
+pub record SendsAll (old : Air Device) (far : Choosing FarEnd) (payloads : List (List ℕ)) (new : Air Device)
+    (after : Choosing FarEnd) (sent : Sent) : Type 0 where
   pub mid : Air Device
   pub half : Choosing FarEnd
   pub came : Result (InitState × ArrayVec ℕ) EndCause
@@ -74,7 +80,8 @@ left_by (Ok came) m air place after peer start = record {
 left_by (Err why) m air place after peer start = moved_at m air place after
 
 -- Payloads were sent to the peer with this number and far end.
-pub record SendsOver (old new : Machines) (place : ℕ) (counts : List ℕ) (payloads : List (List ℕ)) (peer : ℕ) (far : FarEnd) (result : Result Answer ObeyFault) : Type 0 where
+pub record SendsOver (old new : Machines) (place : ℕ) (counts : List ℕ) (payloads : List (List ℕ)) (peer : ℕ)
+    (far : FarEnd) (result : Result Answer ObeyFault) : Type 0 where
   pub air : Air Device
   pub after : Choosing FarEnd
   pub sent : Sent
@@ -84,7 +91,8 @@ pub record SendsOver (old new : Machines) (place : ℕ) (counts : List ℕ) (pay
 
 -- So it was, or nothing was done, since room for one link more was wanting.
 abbrev pub SendsTo : Machines → Machines → ℕ → List ℕ → List (List ℕ) → ℕ → FarEnd → Result Answer ObeyFault → Type 0
-SendsTo old new place counts payloads peer far result = ((result ≡ Err faults.Memory) × (new ≡ old)) ⊎ SendsOver old new place counts payloads peer far result
+SendsTo old new place counts payloads peer far result =
+    ((result ≡ Err faults.Memory) × (new ≡ old)) ⊎ SendsOver old new place counts payloads peer far result
 
 -- It was cut off: there is a front of its step, or the peer's end stopped behind one.
 abbrev pub ForgeStops : Joins → State → Command → List Event → State → Type 0

@@ -1,4 +1,5 @@
--- What the peers of links accepted on them, by the machines of a bench; for private calls: a bench says it of its state.
+-- What the peers of links accepted on them, by the machines of a bench; for private calls: a bench says it of its
+-- state.
 use Rattle.std.specs.Prelude.{ℕ, List, [], get_or, Option, Some, None}
 use Rattle.snep_core.specs.Server.{Received as Accepted}
 use Rattle.bench_world.specs.declared.inbox.LinkRange.{LinkRange}
@@ -15,7 +16,8 @@ accepted_above (Some end) = end.service.accepted
 
 abbrev pub gained_above_by : Machines → Option LinkRange → List Accepted
 gained_above_by m None = []
-gained_above_by m (Some l) = gained_in l (accepted_of (end_numbered l.peer m.peers.numbers m.ends) (get_or m.peers.gone l.peer None))
+gained_above_by m (Some l) =
+    gained_in l (accepted_of (end_numbered l.peer m.peers.numbers m.ends) (get_or m.peers.gone l.peer None))
 
 -- so it is of the link with a number
 abbrev pub gained_above : Machines → ℕ → List Accepted

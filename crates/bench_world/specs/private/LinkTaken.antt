@@ -1,5 +1,6 @@
 -- The open link, taken out of the machines of a bench for a command, with its peer's end, and put back behind it.
-use Rattle.std.specs.Prelude.{◌≡◌, ◌<◌, ℕ, Bool, true, false, if◌then◌else◌, List, [], ◌∷◌, map, length, get_or, slice_set, Option, Some, None, Result, Ok, Err}
+use Rattle.std.specs.Prelude.{◌≡◌, ◌<◌, ℕ, Bool, true, false, if◌then◌else◌, List, [], ◌∷◌, map, length, get_or}
+use Rattle.std.specs.Prelude.{slice_set, Option, Some, None, Result, Ok, Err}
 use Rattle.nfc_base.specs.declared.carrier.EndCause.TheVariants as cause
 use Rattle.snep_core.specs.declared.fault.SnepFault.{SnepFault}
 use Rattle.snep_core.specs.declared.fault.SnepFault.TheVariants.{LinkEnded}
@@ -36,7 +37,8 @@ put_back m place end l = under (slice_set m.ends place (Some end)) m.peers (Some
 
 -- the end is at its place again, and the link is over
 abbrev pub put_down : Machines → ℕ → FarEnd → Machines
-put_down m place end = under (slice_set m.ends place (Some end)) (with_last_ended (accepted_by (Some end)) m.peers) m.link m.air
+put_down m place end = under (slice_set m.ends place (Some end)) (with_last_ended (accepted_by (Some end)) m.peers)
+    m.link m.air
 
 -- what is told of a call that has no ending: by what its link ended, or that memory was wanting
 abbrev pub fault_told : SnepFault → Result Answer ObeyFault

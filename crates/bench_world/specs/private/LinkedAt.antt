@@ -44,18 +44,26 @@ restarts old general new = new ≡ restarted serving old general
 
 -- the machines with this field, and this far end at a place
 abbrev pub moved_at : Machines → Air Device → ℕ → FarEnd → Machines
-moved_at m air place after = record { air = air; ends = slice_set m.ends place (Some after); peers = m.peers; link = m.link }
+moved_at m air place after = record {
+  air = air;
+  ends = slice_set m.ends place (Some after);
+  peers = m.peers;
+  link = m.link;
+}
 
 -- What is there then, by what came of ATR_REQ: the link that is open; or none, where no answer came, or memory was
 -- wanting.
-abbrev pub LinkLeft : Machines → ℕ → ℕ → ℕ → ℕ → Result (InitState × ArrayVec ℕ) EndCause → Result Answer ObeyFault → Machines → Type 0
+abbrev pub LinkLeft : Machines → ℕ → ℕ → ℕ → ℕ → Result (InitState × ArrayVec ℕ) EndCause → Result Answer ObeyFault
+    → Machines → Type 0
 LinkLeft mid miu window peer start (Ok p) (Ok a) new =
-    (a ≡ answers.Linked (length mid.peers.links + 1)) × (new ≡ machines_at_start mid peer start p.0 (new_client miu window p.1.items))
+    (a ≡ answers.Linked (length mid.peers.links + 1))
+    × (new ≡ machines_at_start mid peer start p.0 (new_client miu window p.1.items))
 LinkLeft mid miu window peer start (Ok p) (Err e) new = (e ≡ faults.Memory) × (new ≡ mid)
 LinkLeft mid miu window peer start (Err cause) result new = NotOpened cause result × (new ≡ mid)
 
 -- ATR_REQ was asked of the peer with this number and far end.
-pub record OpensAt (old new : Machines) (place miu window peer : ℕ) (far : FarEnd) (result : Result Answer ObeyFault) : Type 0 where
+pub record OpensAt (old new : Machines) (place miu window peer : ℕ) (far : FarEnd) (result : Result Answer ObeyFault)
+    : Type 0 where
   pub air : Air Device
   pub after : FarEnd
   pub came : Result (InitState × ArrayVec ℕ) EndCause

@@ -39,17 +39,22 @@ frames_due frames ns = raw_due (raw_stand frames (Sends [] frames) ns)
 abbrev pub HeardEach : Type 0
 HeardEach = Result (List RawHeard) EndCause
 
-module _ {A : Type 0} (restarts : A → List ℕ → A → Type 0) (steps : A → List ℕ → List ℕ → A → Type 0) (stops : A → List ℕ → A → Type 0) (is_stuck : A → Bool) where
+module _ {A : Type 0} (restarts : A → List ℕ → A → Type 0) (steps : A → List ℕ → List ℕ → A → Type 0)
+    (stops : A → List ℕ → A → Type 0) (is_stuck : A → Bool) where
   -- how it ended, by where it stood then
   abbrev pub FramesEnd : List Signal → List Note → Air Device → A → Air Device → A → HeardEach → Type 0
-  FramesEnd frames ns mid half new after (Ok heard) = (new ≡ mid) × (after ≡ half) × (raw_stand frames (Sends [] frames) ns ≡ Sends heard [])
-  FramesEnd frames ns mid half new after (Err cause.FieldLost) = (new ≡ mid) × (after ≡ half) × (raw_stand frames (Sends [] frames) ns ≡ Dark)
+  FramesEnd frames ns mid half new after (Ok heard) = (new ≡ mid) × (after ≡ half)
+      × (raw_stand frames (Sends [] frames) ns ≡ Sends heard [])
+  FramesEnd frames ns mid half new after (Err cause.FieldLost) =
+      (new ≡ mid) × (after ≡ half) × (raw_stand frames (Sends [] frames) ns ≡ Dark)
   FramesEnd frames ns mid half new after (Err cause.Memory) =
-      (are_sent (raw_stand frames (Sends [] frames) ns) ≡ true) × LeavesOff devices restarts steps (frames_due frames) stops is_stuck ns mid half new after
+      (are_sent (raw_stand frames (Sends [] frames) ns) ≡ true)
+      × LeavesOff devices restarts steps (frames_due frames) stops is_stuck ns mid half new after
   FramesEnd frames ns mid half new after (Err why) = ⊥
 
   -- Each frame was sent once, as far as it came, to listeners and a far end of this kind.
-  pub record SendsEach (old : Air Device) (far : A) (frames : List Signal) (new : Air Device) (after : A) (result : HeardEach) : Type 0 where
+  pub record SendsEach (old : Air Device) (far : A) (frames : List Signal) (new : Air Device) (after : A)
+      (result : HeardEach) : Type 0 where
     pub notes : List Note
     pub mid : Air Device
     pub half : A
@@ -65,7 +70,8 @@ SendsCounted = SendsEach (RestartsCounted serving) (AnswersCounted serving) (Sto
 
 -- and over none
 abbrev pub SendsMuted : Air Device → Mute → List Signal → Air Device → Mute → HeardEach → Type 0
-SendsMuted = SendsEach (λ old general new. new ≡ old) (λ old payload reply new. (new ≡ old) × (reply ≡ [])) (λ old payload new. ⊥) (λ far. false)
+SendsMuted = SendsEach (λ old general new. new ≡ old) (λ old payload reply new. (new ≡ old) × (reply ≡ []))
+    (λ old payload new. ⊥) (λ far. false)
 
 -- What came of all: no link was opened, by this cause; or the frames were sent.
 abbrev pub SentRaw : Type 0
@@ -82,13 +88,15 @@ told_raw (Ok came) = told_each came
 told_raw (Err why) = told_cause why
 
 -- what was done behind ATR_REQ, by what came of that
-abbrev pub RawBehind : List Signal → Air Device → Choosing FarEnd → Result (InitState × ArrayVec ℕ) EndCause → Air Device → Choosing FarEnd → SentRaw → Type 0
+abbrev pub RawBehind : List Signal → Air Device → Choosing FarEnd → Result (InitState × ArrayVec ℕ) EndCause
+    → Air Device → Choosing FarEnd → SentRaw → Type 0
 RawBehind frames mid half (Ok p) new after (Ok came) = SendsCounted mid half frames new after came
 RawBehind frames mid half (Ok p) new after (Err why) = ⊥
 RawBehind frames mid half (Err why) new after sent = (sent ≡ Err why) × (new ≡ mid) × (after ≡ half)
 
 -- ATR_REQ was asked of a peer, and then the frames were sent.
-pub record RawSendsAll (old : Air Device) (far : Choosing FarEnd) (frames : List Signal) (new : Air Device) (after : Choosing FarEnd) (sent : SentRaw) : Type 0 where
+pub record RawSendsAll (old : Air Device) (far : Choosing FarEnd) (frames : List Signal) (new : Air Device)
+    (after : Choosing FarEnd) (sent : SentRaw) : Type 0 where
   pub mid : Air Device
   pub half : Choosing FarEnd
   pub came : Result (InitState × ArrayVec ℕ) EndCause
@@ -96,7 +104,8 @@ pub record RawSendsAll (old : Air Device) (far : Choosing FarEnd) (frames : List
   pub behind : RawBehind frames mid half came new after sent
 
 -- Frames were sent to the peer with this number and far end: one link more began and ended, where one was opened.
-pub record RawSendsOver (old new : Machines) (place : ℕ) (counts : List ℕ) (frames : List Signal) (peer : ℕ) (far : FarEnd) (result : Result Answer ObeyFault) : Type 0 where
+pub record RawSendsOver (old new : Machines) (place : ℕ) (counts : List ℕ) (frames : List Signal) (peer : ℕ)
+    (far : FarEnd) (result : Result Answer ObeyFault) : Type 0 where
   pub air : Air Device
   pub after : Choosing FarEnd
   pub sent : SentRaw
@@ -106,10 +115,12 @@ pub record RawSendsOver (old new : Machines) (place : ℕ) (counts : List ℕ) (
 
 -- So it was, or nothing was done, since room for one link more was wanting.
 abbrev pub RawSendsTo : Machines → Machines → ℕ → List ℕ → List Signal → ℕ → FarEnd → Result Answer ObeyFault → Type 0
-RawSendsTo old new place counts frames peer far result = ((result ≡ Err faults.Memory) × (new ≡ old)) ⊎ RawSendsOver old new place counts frames peer far result
+RawSendsTo old new place counts frames peer far result =
+    ((result ≡ Err faults.Memory) × (new ≡ old)) ⊎ RawSendsOver old new place counts frames peer far result
 
 -- Frames were sent to a tag, beside the peer at a place, whose far end was this one.
-pub record RawBeside (old new : Machines) (place : ℕ) (counts : List ℕ) (frames : List Signal) (far : FarEnd) (result : Result Answer ObeyFault) : Type 0 where
+pub record RawBeside (old new : Machines) (place : ℕ) (counts : List ℕ) (frames : List Signal) (far : FarEnd)
+    (result : Result Answer ObeyFault) : Type 0 where
   pub air : Air Device
   pub after : Choosing FarEnd
   pub came : HeardEach

@@ -8,7 +8,8 @@ use Rattle.nfc_base.specs.declared.event.Event.TheVariants.{Request}
 use Rattle.nfc_base.specs.declared.event.Fate.{Fate}
 use Rattle.nfc_base.specs.declared.event.Fate.TheVariants.{Pass, Damage, Lose, Break}
 use Rattle.air_core.specs.Joint.{Joint, Nothing, Single, Clashing}
-use Rattle.air_core.specs.Conversation.{AirModel, Note, note, Next, LightUp, Asks, receptions, EachDue, joint_events, joint_back, replay, turn_events, turn_heard, Move, Light, Ask, move_events, trace_of, AreTurns}
+use Rattle.air_core.specs.Conversation.{AirModel, Note, note, Next, LightUp, Asks, receptions, EachDue, joint_events, joint_back, replay, turn_events, turn_heard, Move, Light, Ask, move_events}
+use Rattle.air_core.specs.Conversation.{trace_of, AreTurns}
 use Rattle.air_core.specs.laws.Turning.{receptions-append}
 
 -- a turn that is made: its request, and the fates of it and of what comes back

@@ -64,7 +64,8 @@ miu_taken a p ok = subst (λ k. k ≤ 2176) (sym (taken_has serving a.far_miu a 
 stays_within : (a : PeerState) (p : List ℕ) (n : ℕ) → IsWithin a → IsWithin (peer_ends.left a p n)
 stays_within a p n ok = subst (λ k. k ≤ 2176) (sym (after_has serving a.far_miu n (taken_from serving a p) (taken_has serving a.far_miu a p refl))) ok
 
-further : (a : PeerState) (p : List ℕ) (n : ℕ) (xs b : List ℕ) → reads a p ≡ true → 2 ≤ length xs → IsProperPrefix xs (peer_ends.reply a p n) → IsProperPrefix xs b → IsProperPrefix xs (peer_ends.reply a p (number b))
+further : (a : PeerState) (p : List ℕ) (n : ℕ) (xs b : List ℕ) → reads a p ≡ true → 2 ≤ length xs → IsProperPrefix xs (peer_ends.reply a p n) → IsProperPrefix xs b
+    → IsProperPrefix xs (peer_ends.reply a p (number b))
 further a p n xs b e two f z =
     subst (λ c. IsProperPrefix xs (peer_ends.reply a p (number c))) (sym z.is)
     (later_shown serving (taken_from serving a p) n xs z.byte z.more e two f)

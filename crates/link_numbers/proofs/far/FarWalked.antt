@@ -24,7 +24,8 @@ use Rattle.link_numbers.proofs.far.FarSame.{IsNumbered}
 use Rattle.link_numbers.proofs.far.FarShown.{SameDark, Shown, same_dark, shown_none}
 use Rattle.link_numbers.proofs.far.FarShows.{answers_append}
 use Rattle.link_numbers.proofs.far.FarSolo.{DoesSo, here}
-use Rattle.link_numbers.proofs.far.FarWalk.{Busy, Done, HasCome, IsWholeWalk, Off, Outs, at_whole, busy_asks, busy_has_more, done_due, off_due, off_has_more, walk_all, walk_asks, walk_goes, walk_never, walk_starts, walk_whole, IsWhole}
+use Rattle.link_numbers.proofs.far.FarWalk.{Busy, Done, HasCome, IsWholeWalk, Off, Outs, at_whole, busy_asks, busy_has_more, done_due, off_due, off_has_more, walk_all, walk_asks, walk_goes}
+use Rattle.link_numbers.proofs.far.FarWalk.{walk_never, walk_starts, walk_whole, IsWhole}
 
 module _ {L F : Type 0} (m : Machine L) (linked : L → Bool) (t : FarTable F) (dev : TargetState → L) (does : DoesSo m linked t dev)
     (Good : F → Type 0) (reads : F → List ℕ → Bool) (numbered : IsNumbered t Good reads)

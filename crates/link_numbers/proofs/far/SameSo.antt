@@ -1,5 +1,6 @@
 -- Two targets that differ in what is left of their replies alone do the same, as far as the same bytes are left.
-use Rattle.std.proofs.Common.{◌≡◌, ℕ, ◌+◌, ◌-◌, ◌<◌, ◌≤◌, ◌==◌, nat_lt, Bool, true, false, if◌then◌else◌, List, ◌++◌, length, take, drop, Option, Some, None, refl, sym, ap, ◌∙◌, subst, arith, length-append}
+use Rattle.std.proofs.Common.{◌≡◌, ℕ, ◌+◌, ◌-◌, ◌<◌, ◌≤◌, ◌==◌, nat_lt, Bool, true, false, if◌then◌else◌, List, ◌++◌, length, take, drop, Option, Some, None, refl, sym, ap, ◌∙◌, subst, arith}
+use Rattle.std.proofs.Common.{length-append}
 use Rattle.std.proofs.lemmas.Bool.{lt-ltb}
 use Rattle.std.proofs.lemmas.List.{drop-append-le, take-append-le}
 use Rattle.arrayvec.specs.ArrayVec.{ArrayVec}
@@ -9,7 +10,8 @@ use Rattle.dep_pdu.specs.declared.frame.DepFrame.TheVariants.{AtrReq, AtrRes, In
 use Rattle.dep_link.specs.declared.target.TargetStep.TheVariants as steps
 use Rattle.dep_link.specs.Sizes.{limit}
 use Rattle.dep_link.specs.Frames.{air_frame, spelled, after, before, information, piece}
-use Rattle.dep_link.specs.Target.{TargetState, TargetMove, TargetTurn, Does, Stays, Answers, Begins, Delivers, Sleeps, Frees, stays, again, repeated, grown, gathered, drawn, granted, extended, frame_table, heeded, obeyed, framed, framed_does, replied, reply_frame, atr_res, target_table}
+use Rattle.dep_link.specs.Target.{TargetState, TargetMove, TargetTurn, Does, Stays, Answers, Begins, Delivers, Sleeps, Frees, stays, again, repeated, grown, gathered, drawn, granted, extended}
+use Rattle.dep_link.specs.Target.{frame_table, heeded, obeyed, framed, framed_does, replied, reply_frame, atr_res, target_table}
 
 -- They differ in what is left of their replies alone, which begins with the bytes xs in both; where these are some, both have more.
 pub record Alike (xs : List ℕ) (t u : TargetState) : Type 0 where

@@ -9,7 +9,9 @@ use Rattle.snep_core.specs.declared.job.Job.{Job}
 use Rattle.snep_core.specs.declared.job.Job.TheVariants.{Begins, Waits, Sends, Asks, Collects, Looks, Closes, Over}
 use Rattle.snep_core.specs.declared.job.OnSap.{OnSap}
 use Rattle.snep_core.specs.Talk as talk
-use Rattle.snep_core.specs.Talk.{CameTo, EndState, Ends, Finds, Gets, GivesUp, Goes, Leaves, Puts, Ready, Step, Task, TaskOn, Working, all_emptied, all_forgotten, all_heard, all_opening, all_over, all_readied, all_well, begins_all, continue_bytes, emptied, gave_any, idle_after, miu_of, most_idle, payload, readied, ready, replied, sends_some, silent, submits, takes_more, took}
+use Rattle.snep_core.specs.Talk.{CameTo, EndState, Ends, Finds, Gets, GivesUp, Goes, Leaves, Puts, Ready, Step, Task, TaskOn, Working, all_emptied, all_forgotten, all_heard, all_opening, all_over}
+use Rattle.snep_core.specs.Talk.{all_readied, all_well, begins_all, continue_bytes, emptied, gave_any, idle_after, miu_of, most_idle, payload, readied, ready, replied, sends_some, silent, submits}
+use Rattle.snep_core.specs.Talk.{takes_more, took}
 use Rattle.link_numbers.specs.OwnShows.{AtEnd, IsWithin}
 use Rattle.link_numbers.proofs.far.EndTakes.{after_has, taken_has, unread_after, unread_given, unread_takes}
 

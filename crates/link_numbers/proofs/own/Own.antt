@@ -23,7 +23,8 @@ use Rattle.link_numbers.specs.Shown.{cut_off, number, numbers}
 use Rattle.link_numbers.proofs.own.OwnCuts.{Grows, open_, closed, at, cuts, cuts_behind, cuts_then, grown, numbers_behind}
 use Rattle.link_numbers.proofs.own.OwnTurns.{Turn, asked_in}
 use Rattle.link_numbers.proofs.own.OwnMoving.{Again, Behind, Fails, Kind, Onward, Wanders, again, draws, fails, frame_due, hears_last, hears_more, kind_of, made, onward, rests, waits, wanders}
-use Rattle.link_numbers.proofs.own.OwnPlaces.{Drawing, Fit, Follows, Midst, Outcome, Unsent, again_midst, cut, midst_follows, midst_from, onward_fit, onward_unsent, outcome, sent_ack, sent_again, sent_last, sent_more, two_came, whole}
+use Rattle.link_numbers.proofs.own.OwnPlaces.{Drawing, Fit, Follows, Midst, Outcome, Unsent, again_midst, cut, midst_follows, midst_from, onward_fit, onward_unsent, outcome, sent_ack, sent_again}
+use Rattle.link_numbers.proofs.own.OwnPlaces.{sent_last, sent_more, two_came, whole}
 use Rattle.link_numbers.proofs.own.OwnBegun.{both_due}
 use Rattle.link_numbers.proofs.payloads.Payload.{cut_shown, later_shown, whole_shown}
 use Rattle.link_numbers.proofs.own.CallKeeps.{Unread, none_by, ready_unread, ready_within, reply_by, reply_unread, reply_within, told_by}

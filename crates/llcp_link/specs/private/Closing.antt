@@ -1,5 +1,5 @@
--- What a DISC, a FRMR, a malformed PDU, and an I, RR or RNR come to by who has the connection, for private calls: no public contract
--- speaks of it, the tables are Taking.antt and Own.antt.
+-- What a DISC, a FRMR, a malformed PDU, and an I, RR or RNR come to by who has the connection, for private calls: no
+-- public contract speaks of it, the tables are Taking.antt and Own.antt.
 use Rattle.std.specs.Prelude.{◌≡◌, ◌<◌, ℕ, Option, Some, None}
 use Rattle.llcp_pdu.specs.declared.pdu_view.PduView.{PduView}
 use Rattle.llcp_pdu.specs.Spelling.{IsReport}

@@ -13,7 +13,8 @@ AreSent [] = Unit {0}
 AreSent (p ∷ ps) = IsSent p × AreSent ps
 
 -- These PDUs were joined to what has so many bytes: so many, or as many as fit where these are fewer.
-pub record Joins {S : Type 0} (m : Serving S) (used most : ℕ) (old : LlcState S) (ps : List Part) (new : LlcState S) : Type 0 where
+pub record Joins {S : Type 0} (m : Serving S) (used most : ℕ) (old : LlcState S) (ps : List Part) (new : LlcState S)
+    : Type 0 where
   pub all : joined m most used old ≡ record { llc = new; parts = ps }
   pub sent : AreSent ps
   pub size : 0 < length ps → used + length (parts_bytes ps) ≤ old.far_miu

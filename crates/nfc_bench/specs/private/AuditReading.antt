@@ -1,5 +1,6 @@
 -- What reading an input to be audited comes to, part by part; for private calls.
-use Rattle.std.specs.Prelude.{◌≡◌, ◌≢◌, ◌⊎◌, ℕ, ◌+◌, ◌*◌, ◌<◌, ◌≤◌, List, [], ◌∷◌, ◌++◌, length, take, true, false, Option, Some, None, IfSome, Result, Ok, Err, Bool}
+use Rattle.std.specs.Prelude.{◌≡◌, ◌≢◌, ◌⊎◌, ℕ, ◌+◌, ◌*◌, ◌<◌, ◌≤◌, List, [], ◌∷◌, ◌++◌, length, take, true, false}
+use Rattle.std.specs.Prelude.{Option, Some, None, IfSome, Result, Ok, Err, Bool}
 use Rattle.std.specs.List.{AllByRecursion}
 use Rattle.nfc_io.specs.Lines.{lines_of, joined, NoLf}
 use Rattle.nfc_io.specs.Reading.{Lined, new_lined, Advances, GaveLines}
@@ -72,7 +73,8 @@ Comes left left' reader (Unmarked script count) = ComesToNone left script.items 
 abbrev pub HandsReport : Lined → Option (List ℕ) → Option (List ℕ) → ℕ → Behind → Type 0
 HandsReport a left left' count (Report report) = HandsOver most_report a left left' (rests.Whole report)
 HandsReport a left left' count (NoReport n) =
-    (rest : Rest) × HandsOver most_report a left left' rest × (most_report < length (bytes_of rest)) × (n ≡ count + 2 + ends_in (take most_report (bytes_of rest)))
+    (rest : Rest) × HandsOver most_report a left left' rest × (most_report < length (bytes_of rest))
+    × (n ≡ count + 2 + ends_in (take most_report (bytes_of rest)))
 
 -- the source was read to its end, where there is a report
 abbrev pub IsRead : Behind → Option (List ℕ) → Type 0

@@ -6,7 +6,8 @@ ghost use Rattle.bench_script.specs.Canonical.{hex_text};
 ghost use Rattle.bench_world.specs.Report.{source_text};
 ghost use Rattle.nfc_io.specs.Counts.{HasRisen};
 ghost use Rattle.nfc_io.specs.Moves.{with_end, GainsFront};
-ghost use Rattle.nfc_bench.specs.AuditText.{faulty_line, legal_line, accepted_head, accepted_line, links_text, legal_text, messages_text};
+ghost use Rattle.nfc_bench.specs.AuditText.{faulty_line, legal_line, accepted_head, accepted_line, links_text};
+ghost use Rattle.nfc_bench.specs.AuditText.{legal_text, messages_text};
 ghost use Rattle.nfc_bench.specs.Gathering.{IsWritten};
 
 use super::gathering::gather;
@@ -176,7 +177,8 @@ fn gather_links<K: Sink>(
     bench: &Bench,
 ) -> Result<(), Failed>
     requires { bench.now.spoiled ≡ false }
-    ensures ok { OnOk result (IsWritten (held.old.items ++ links_text bench.now.state 1 (length bench.now.state.peers.links))
+    ensures ok { OnOk result
+        (IsWritten (held.old.items ++ links_text bench.now.state 1 (length bench.now.state.peers.links))
         held.new.items (K.taken sink.old) (K.taken sink.new)) }
     ensures still { OnOk result (K.faults sink.new ≡ K.faults sink.old) }
     ensures err { OnErr result (GainsFront (K.taken sink.old) (K.taken sink.new)

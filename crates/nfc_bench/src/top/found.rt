@@ -2,7 +2,8 @@
 
 ghost use Rattle.std.specs.Prelude.{◌≡◌, ◌+◌, ◌-◌, ◌<◌, ◌≤◌, ◌^◌, cond, length, option_copied, IfOk};
 ghost use Rattle.bench_world.specs.declared.entry.Entry.{Entry};
-ghost use Rattle.nfc_bench.specs.Sweep.{told_in, first_told, written_in, tells, is_old, is_new, is_neither, found_among, found_in, found_line};
+ghost use Rattle.nfc_bench.specs.Sweep.{told_in, first_told, written_in, tells, is_old, is_new, is_neither};
+ghost use Rattle.nfc_bench.specs.Sweep.{found_among, found_in, found_line};
 
 use super::text::{push_number, push_text};
 use arrayvec::ArrayVec;
@@ -80,9 +81,11 @@ impl Found {
         ensures old { self.new.with_old
             ≡ self.old.with_old + cond (is_old (option_copied before.entry) (option_copied told.entry)) 1 0 }
         ensures none { self.new.with_none
-            ≡ self.old.with_none + cond (is_neither (option_copied before.entry) written.now (option_copied told.entry)) 1 0 }
+            ≡ self.old.with_none + cond (is_neither (option_copied before.entry) written.now (option_copied told.entry))
+            1 0 }
         ensures new { self.new.with_new
-            ≡ self.old.with_new + cond (is_new (option_copied before.entry) written.now (option_copied told.entry)) 1 0 }
+            ≡ self.old.with_new + cond (is_new (option_copied before.entry) written.now (option_copied told.entry)) 1
+            0 }
     {
         self.runs += 1;
         if is_old(told, before) {

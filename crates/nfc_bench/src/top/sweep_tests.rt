@@ -11,8 +11,8 @@ use std::test::Fail;
 const SCRIPT: &str =
     "place t5 E004010203040506 4 32 E1400F000303D00000FE\nwrite E004010203040506 D101";
 
-/// The status of a sweep over it, what the sink then holds, and how many runs are finished. The read and the write of these
-/// numbers fail, counted from 1, and the sink has this much room.
+/// The status of a sweep over it, what the sink then holds, and how many runs are finished. The read and the write of
+/// these numbers fail, counted from 1, and the sink has this much room.
 fn outcome(alloc: Global, failing: (u32, u32), room: usize) -> Result<(u8, Vec<u8>, usize), Fail> {
     let words = words_of(alloc, "sweep")?;
     let script = Vec::from_slice(alloc, SCRIPT.as_bytes())?;
@@ -24,7 +24,8 @@ fn outcome(alloc: Global, failing: (u32, u32), room: usize) -> Result<(u8, Vec<u
     Ok((status, written, bench.finished().len()))
 }
 
-/// What is shown, the calls that fail, the room of the sink; the status, what is written, and how many runs are finished.
+/// What is shown, the calls that fail, the room of the sink; the status, what is written, and how many runs are
+/// finished.
 type Ends<'a> = (&'a str, (u32, u32), usize, (u8, &'a str, usize));
 
 /// A sweep over ends that fail comes to that.

@@ -1,14 +1,18 @@
 //! A sweep: a write that is broken off at each of its transmissions.
 
-ghost use Rattle.std.specs.Prelude.{true, ◌≡◌, ◌≢◌, ◌⊎◌, ◌-◌, ◌≤◌, ◌<◌, ◌^◌, [], false, ℕ, List, length, IfOk, IfErr, IfSome, OnOk, OnErr, Err, None};
+ghost use Rattle.std.specs.Prelude.{true, ◌≡◌, ◌≢◌, ◌⊎◌, ◌-◌, ◌≤◌, ◌<◌, ◌^◌, [], false, ℕ, List, length, IfOk, IfErr};
+ghost use Rattle.std.specs.Prelude.{IfSome, OnOk, OnErr, Err, None};
 ghost use Rattle.nfc_io.specs.Counts.{HasRisen};
 ghost use Rattle.nfc_io.specs.Lines.{lines_of};
 ghost use Rattle.bench_script.specs.declared.command.DeviceId.{DeviceId};
 ghost use Rattle.bench_world.specs.Obeying.{begun_anew, new_bench};
 ghost use Rattle.nfc_bench.specs.Reading.{AreLinesOf};
-ghost use Rattle.nfc_bench.specs.Run.{FirstAreObeyed, HasSwept, HasSweptSome, IsUnwritten, EndsSwept, EndsUnswept, EndsUnknown, EndsUntellable, EndsHalfSwept, MaySweep, ReadsInTime, ReadsAtMost};
+ghost use Rattle.nfc_bench.specs.Run.{FirstAreObeyed, HasSwept, HasSweptSome, IsUnwritten, EndsSwept, EndsUnswept};
+ghost use Rattle.nfc_bench.specs.Run.{EndsUnknown, EndsUntellable, EndsHalfSwept, MaySweep, ReadsInTime, ReadsAtMost};
 ghost use Rattle.nfc_bench.specs.Sweep.{all_transmissions, found_in, read_line};
-ghost use Rattle.nfc_bench.specs.SweepStops.{is_fates, is_write, Stands, StandsTo, ObeysSwept, ScriptStops, IsWrittenBy, BeginsSweep, AreSweptLines, AreAllTaken, HasBrokenAll, HasBrokenSome, SweepsAll, SweepStops, IsKeptUnless};
+ghost use Rattle.nfc_bench.specs.SweepStops.{is_fates, is_write, Stands, StandsTo, ObeysSwept, ScriptStops};
+ghost use Rattle.nfc_bench.specs.SweepStops.{IsWrittenBy, BeginsSweep, AreSweptLines, AreAllTaken, HasBrokenAll};
+ghost use Rattle.nfc_bench.specs.SweepStops.{HasBrokenSome, SweepsAll, SweepStops, IsKeptUnless};
 ghost use Rattle.nfc_bench.specs.Limits.{most_read};
 
 use super::found::{Found, found_in, found_line};
@@ -94,7 +98,8 @@ fn obey_script(alloc: Global, script: &mut Script, bench: &mut Bench) -> Result<
     requires { bench.old ≡ new_bench }
     ensures ok { OnOk result (ObeysSwept script.old bench.new) }
     ensures same { OnOk result (script.new ≡ script.old) }
-    ensures err { (lines : List (List ℕ)) → AreLinesOf script.old lines → IfErr result (λ cut. ScriptStops lines bench.new cut) }
+    ensures err { (lines : List (List ℕ)) → AreLinesOf script.old lines
+        → IfErr result (λ cut. ScriptStops lines bench.new cut) }
     ensures sound { IsKeptUnless result bench.new }
     ensures runs { bench.new.finished ≡ [] }
 {

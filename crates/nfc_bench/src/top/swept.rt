@@ -1,6 +1,7 @@
 //! The lines of a sweep's runs.
 
-ghost use Rattle.std.specs.Prelude.{◌≡◌, ◌+◌, ◌-◌, ◌/◌, ◌≤◌, ◌<◌, ◌++◌, [], ◌∷◌, ℕ, List, length, take, codes, replicate, slice_index_or, Bool, true, if◌then◌else◌, IfOk};
+ghost use Rattle.std.specs.Prelude.{◌≡◌, ◌+◌, ◌-◌, ◌/◌, ◌≤◌, ◌<◌, ◌++◌, [], ◌∷◌, ℕ, List, length, take, codes};
+ghost use Rattle.std.specs.Prelude.{replicate, slice_index_or, Bool, true, if◌then◌else◌, IfOk};
 ghost use Rattle.bench_script.specs.Limits.{longest_line};
 ghost use Rattle.bench_script.specs.Script.{most_fates};
 ghost use Rattle.nfc_bench.specs.Sweep.{Swept, fates_line, break_lines, sweep_lines};
@@ -98,7 +99,8 @@ impl SweptLines {
     /// The line at a place behind those of the script but the last.
     fn line_behind(&self, place: u32) -> ArrayVec<u8, 4096>
         requires { place < self.now.passes / most_fates + 3 }
-        ensures { result.items ≡ slice_index_or (break_lines self.now.passes ++ self.now.last ∷ self.now.read ∷ []) place [] }
+        ensures { result.items ≡ slice_index_or (break_lines self.now.passes ++ self.now.last ∷ self.now.read ∷ [])
+            place [] }
     {
         let whole = self.passes / MOST_FATES;
         if place < whole {

@@ -1,6 +1,7 @@
 //! The forms of words that a run has.
 
-ghost use Rattle.std.specs.Prelude.{◌≡◌, ◌≢◌, ◌<◌, ◌^◌, [], ◌∷◌, ℕ, codes, map, string_bytes, IfSome, None, MatchOption};
+ghost use Rattle.std.specs.Prelude.{◌≡◌, ◌≢◌, ◌<◌, ◌^◌, [], ◌∷◌, ℕ, codes, map, string_bytes, IfSome, None};
+ghost use Rattle.std.specs.Prelude.{MatchOption};
 ghost use Rattle.std.specs.Fmt.{decimal};
 ghost use Rattle.nfc_bench.specs.Run.{FormOf};
 

@@ -1,4 +1,5 @@
-//! Writing the text of an entry. Its lines are made where they are gathered, so that the sink is called once for many of them.
+//! Writing the text of an entry. Its lines are made where they are gathered, so that the sink is called once for many
+//! of them.
 
 ghost use Rattle.std.specs.Prelude.{◌≡◌, ◌≤◌, ◌++◌, [], OnOk, OnErr};
 ghost use Rattle.nfc_io.specs.Counts.{HasRisen};
@@ -12,8 +13,8 @@ use bench_world::{Entry, answer_pieces, push_event_line};
 use nfc_base::Event;
 use nfc_io::{Failed, Sink, write_all};
 
-/// Writes the lines of an entry: those of its events, unless `quiet`, and that of its answer. All of them are in the sink
-/// when it returns. It takes no memory.
+/// Writes the lines of an entry: those of its events, unless `quiet`, and that of its answer. All of them are in the
+/// sink when it returns. It takes no memory.
 pub fn write_entry<K: Sink>(sink: &mut K, entry: &Entry, quiet: bool) -> Result<(), Failed>
     ensures ok { OnOk result (K.taken sink.new ≡ with_end (K.taken sink.old) (entry_text quiet entry.now)) }
     ensures still { OnOk result (K.faults sink.new ≡ K.faults sink.old) }

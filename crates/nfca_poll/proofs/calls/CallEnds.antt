@@ -1,5 +1,6 @@
 -- How a call by rounds ends: by no other faults than it tells, after at most four rounds.
-use Rattle.std.proofs.Common.{◌≡◌, ◌⊎◌, inl, inr, ℕ, suc, ◌+◌, ◌-◌, ◌<◌, ◌≤◌, List, [], ◌∷◌, ◌++◌, length, drop, Bool, true, false, nat_lt, if◌then◌else◌, Option, Some, None, Result, Ok, Err, refl, sym, ◌∙◌, ap, subst, arith}
+use Rattle.std.proofs.Common.{◌≡◌, ◌⊎◌, inl, inr, ℕ, suc, ◌+◌, ◌-◌, ◌<◌, ◌≤◌, List, [], ◌∷◌, ◌++◌, length, drop, Bool, true, false, nat_lt, if◌then◌else◌, Option, Some, None, Result, Ok, Err, refl}
+use Rattle.std.proofs.Common.{sym, ◌∙◌, ap, subst, arith}
 use Rattle.nfc_base.specs.Signal.{Signal}
 use Rattle.nfc_base.specs.Trace.{breaks}
 use Rattle.nfc_base.specs.declared.event.Event.{Event}
@@ -20,7 +21,8 @@ use Rattle.nfca_poll.specs.Levels.{identifier}
 use Rattle.nfca_poll.specs.Poll.{Seek, Calling, Asking, Selecting, Ended, Nobody, Disturbed, BadAnswer, Found, seek_step, seek_next}
 use Rattle.nfca_poll.specs.Muted.{mute_air}
 use Rattle.nfca_poll.specs.Enquiry.{Progress, Reaches, Loses, progress, or_memory, Enquires}
-use Rattle.nfca_poll.specs.Rounds.{Aim, finding, picking, all_devices, device_of, LeavesLit, Search, Begins, Seeks, Sends, Told, next_round, has_found, most_found, most_rounds, met_or_taken, sought, searching, search_next, search_lit, search_step, search_ended}
+use Rattle.nfca_poll.specs.Rounds.{Aim, finding, picking, all_devices, device_of, LeavesLit, Search, Begins, Seeks, Sends, Told, next_round, has_found, most_found, most_rounds, met_or_taken, sought}
+use Rattle.nfca_poll.specs.Rounds.{searching, search_next, search_lit, search_step, search_ended}
 use Rattle.nfca_poll.specs.RoundTrace.{rounds}
 use Rattle.nfca_poll.proofs.enquiries.EnquiryWalks.{nothing_lit, after, holds}
 use Rattle.nfca_poll.proofs.enquiries.EnquiryEnds.{Ends, ends, events_gained, leaves_lit}
@@ -198,7 +200,8 @@ module _ {X : Type 0} (aim : Aim X) where
       subst R (sym (events_gained (searching aim) m old new r q))
       (few_end (progress (searching aim) (searching aim).start q.notes) q.going.events
       (holds (searching aim) (mute_air m) (moment old).world Few (omega arith) few_lit
-      (λ s es g x y k due lit. few_by (mute_air m) (replay (mute_air m) (moment old).world es) s es g x y (turn_heard (mute_air m) (replay (mute_air m) (moment old).world es) g x y) k) (moment old) (moment new) q.notes refl
+      (λ s es g x y k due lit. few_by (mute_air m) (replay (mute_air m) (moment old).world es) s es g x y (turn_heard (mute_air m) (replay (mute_air m) (moment old).world es) g x y) k) (moment old)
+      (moment new) q.notes refl
       q.going))
 
 -- what a call that finds all devices leaves and tells

@@ -106,7 +106,8 @@ module _ {L : Type 0} (m : Machine L) {identifier' : L → List ℕ} (polled : A
     more_noise : (now : List Event) → noise now + noise te ≡ noise (now ++ te)
     more_noise now = sym (noise-append now te)
 
-    rounds_turn : (round : ℕ) (found : List Picked) (now : List Event) → Rounds m polled aim w field round found now a es → map picked_of (of b) ≡ map picked_of (of a) → AreUnlinked m polled.unlinked b.listeners
+    rounds_turn : (round : ℕ) (found : List Picked) (now : List Event) → Rounds m polled aim w field round found now a es → map picked_of (of b) ≡ map picked_of (of a)
+        → AreUnlinked m polled.unlinked b.listeners
         → Rounds m polled aim w field round found (now ++ te) b (es ++ te)
     rounds_turn round found now c same fresh = record {
       few = c.few;
@@ -159,26 +160,31 @@ module _ {L : Type 0} (m : Machine L) {identifier' : L → List ℕ} (polled : A
     stand : (round : ℕ) (found : List Picked) (s : Seek) (k : InSeek m polled aim w field round found s a es) → Each Stands k.start
     stand round found s k = fits_stand (noise k.now) found k.start (same_idents m polled aim w field k.start k.resolves.same) k.resolves.fits
 
-    calling : (round : ℕ) (found : List Picked) (n : ℕ) → InSeek m polled aim w field round found (Calling n) a es → call_frame Sens ≡ f → At (sought aim next_round round found (seek_step (Calling n) h)) b (es ++ te)
+    calling : (round : ℕ) (found : List Picked) (n : ℕ) → InSeek m polled aim w field round found (Calling n) a es → call_frame Sens ≡ f
+        → At (sought aim next_round round found (seek_step (Calling n) h)) b (es ++ te)
     calling round found n k e =
         let sens : is_sens_req f ≡ true = ap is_sens_req (sym e) in
         let one = sens_turn (mute_air m) a f x y sens in
         seek_turn round found (Calling n) Sens (ap (λ (g : Signal). g.tech) (sym e)) (ap call_of (sym e)) k
-        (λ t. sens_step k.start (stand round found (Calling n) k) (same_distinct m polled aim w field k.start k.resolves.same) n (of a) (of b) h (noise te) k.ts (k.ts ++ calls te) (noise k.now) k.sought
+        (λ t. sens_step k.start (stand round found (Calling n) k) (same_distinct m polled aim w field k.start k.resolves.same) n (of a) (of b) h (noise te) k.ts (k.ts ++ calls te) (noise k.now)
+        k.sought
         (length-append k.ts (calls te) ∙ ap (λ i. length k.ts + i) one.0)
         (count-append k.ts (calls te) ∙ ap (λ i. noisy_count k.ts + i) (one.1 ∙ was_small (Calls Sens) (of a) (of b) h (noise te) t)) t)
 
-    asking : (round : ℕ) (found : List Picked) (done : List (List ℕ)) (known : List Bool) → InSeek m polled aim w field round found (Asking done known) a es → call_frame (Sdd (length done + 1) known) ≡ f
+    asking : (round : ℕ) (found : List Picked) (done : List (List ℕ)) (known : List Bool) → InSeek m polled aim w field round found (Asking done known) a es
+        → call_frame (Sdd (length done + 1) known) ≡ f
         → At (sought aim next_round round found (seek_step (Asking done known) h)) b (es ++ te)
     asking round found done known k e =
         seek_turn round found (Asking done known) (Sdd (length done + 1) known) (ap (λ (g : Signal). g.tech) (sym e)) (ap call_of (sym e) ∙ sdd_is_read k.start done known (of a) k.sought) k
-        (λ t. sdd_step k.start (stand round found (Asking done known) k) (same_distinct m polled aim w field k.start k.resolves.same) done known (of a) (of b) h (noise te) (k.ts ++ calls te) (noise k.now) k.sought t)
+        (λ t. sdd_step k.start (stand round found (Asking done known) k) (same_distinct m polled aim w field k.start k.resolves.same) done known (of a) (of b) h (noise te) (k.ts ++ calls te)
+        (noise k.now) k.sought t)
 
     selecting : (round : ℕ) (found : List Picked) (done : List (List ℕ)) (l : List ℕ) → InSeek m polled aim w field round found (Selecting done l) a es → call_frame (Sel (length done + 1) l) ≡ f
         → At (sought aim next_round round found (seek_step (Selecting done l) h)) b (es ++ te)
     selecting round found done l k e =
         seek_turn round found (Selecting done l) (Sel (length done + 1) l) (ap (λ (g : Signal). g.tech) (sym e)) (ap call_of (sym e) ∙ sel_is_read k.start done l (of a) k.sought) k
-        (λ t. sel_step k.start (stand round found (Selecting done l) k) (same_distinct m polled aim w field k.start k.resolves.same) done l (of a) (of b) h (noise te) (k.ts ++ calls te) (noise k.now) k.sought t)
+        (λ t. sel_step k.start (stand round found (Selecting done l) k) (same_distinct m polled aim w field k.start k.resolves.same) done l (of a) (of b) h (noise te) (k.ts ++ calls te) (noise k.now)
+        k.sought t)
 
     -- SLP_REQ, and the next resolution begins
     sends : (round : ℕ) (found : List Picked) → InSend m polled aim w field round found a es → call_frame Slp ≡ f → InSeek m polled aim w field round found (Calling 0) b (es ++ te)

@@ -14,7 +14,8 @@ use Rattle.nfca_poll.specs.declared.rounds.RoundEnd.TheVariants as ends
 use Rattle.nfca_poll.specs.Levels.{identifier}
 use Rattle.nfca_poll.specs.Poll.{Seek, Calling, Asking, Selecting, Ended, Nobody, Disturbed, BadAnswer, Found, seek_step}
 use Rattle.nfca_poll.specs.Enquiry.{Progress, Reaches, Loses, or_memory, Enquires}
-use Rattle.nfca_poll.specs.Rounds.{Aim, Search, Begins, Seeks, Sends, Told, next_round, has_found, most_found, most_rounds, met_or_taken, sought, searching, search_next, search_lit, search_step, search_ended}
+use Rattle.nfca_poll.specs.Rounds.{Aim, Search, Begins, Seeks, Sends, Told, next_round, has_found, most_found, most_rounds, met_or_taken, sought, searching, search_next, search_lit, search_step}
+use Rattle.nfca_poll.specs.Rounds.{search_ended}
 use Rattle.nfca_poll.specs.private.OneRound.{is_wanted, round_of, no_more, one_round}
 use Rattle.nfca_poll.proofs.enquiries.Enquiring.{Reached, enquires_so}
 use Rattle.nfca_poll.proofs.enquiries.EnquiryEnds.{Ends, ends as ends_so}

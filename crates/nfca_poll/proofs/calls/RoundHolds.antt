@@ -1,5 +1,6 @@
 -- What is known at each point of a call by rounds, over polled listeners and whatever noise it meets.
-use Rattle.std.proofs.Common.{◌≡◌, ◌⊎◌, ℕ, ◌+◌, ◌<◌, ◌≤◌, List, [], ◌∷◌, ◌++◌, length, filter, map, Bool, true, false, nat_lt, if◌then◌else◌, inl, inr, refl, sym, ◌∙◌, ap, subst, append_assoc, arith, Option, Some, None, Result, Ok, Err}
+use Rattle.std.proofs.Common.{◌≡◌, ◌⊎◌, ℕ, ◌+◌, ◌<◌, ◌≤◌, List, [], ◌∷◌, ◌++◌, length, filter, map, Bool, true, false, nat_lt, if◌then◌else◌, inl, inr, refl, sym, ◌∙◌, ap, subst, append_assoc, arith}
+use Rattle.std.proofs.Common.{Option, Some, None, Result, Ok, Err}
 use Rattle.std.proofs.lemmas.List.{append-nil, length-append}
 use Rattle.nfc_base.specs.Trace.{Turn, noise}
 use Rattle.nfc_base.specs.declared.event.Event.{Event}
@@ -25,7 +26,8 @@ use Rattle.nfca_poll.proofs.quiet.Eaches.{each_has, has_middle}
 use Rattle.nfca_poll.proofs.quiet.Selects.{identifier_of}
 use Rattle.nfca_poll.proofs.noise.PolledTurns.{unlinked_tidy}
 use Rattle.nfca_poll.proofs.quiet.RoundParts.{InRound, all_noisy, misses, gives_up, calls, noisy_count, last_are}
-use Rattle.nfca_poll.proofs.quiet.CrowdOrder.{each_of, mapped_each, each_unmapped, has_mapped, mapped_has, has_front, has_back, IsSorted, AllUnlike, unlike_apart, same_by_id, crowd_sorted, crowd_length, crowd_has, has_crowd, crowd_unlike, unlike_cards, cards_unlike, next_is, found_has, has_found_is}
+use Rattle.nfca_poll.proofs.quiet.CrowdOrder.{each_of, mapped_each, each_unmapped, has_mapped, mapped_has, has_front, has_back, IsSorted, AllUnlike, unlike_apart, same_by_id, crowd_sorted}
+use Rattle.nfca_poll.proofs.quiet.CrowdOrder.{crowd_length, crowd_has, has_crowd, crowd_unlike, unlike_cards, cards_unlike, next_is, found_has, has_found_is}
 use Rattle.nfca_poll.proofs.noise.SoughtFrom.{NoneIdle, EndsWith, SoughtFrom}
 use Rattle.nfca_poll.proofs.noise.PickedFrom.{PickedFrom, picked_from, shades_rest}
 use Rattle.nfca_poll.proofs.calls.RoundCards.{FitsRound, picked_again, picked_sends, picked_first, unfound_idle}
@@ -145,7 +147,8 @@ module _ {L : Type 0} (m : Machine L) {identifier' : L → List ℕ} (polled : A
       let N : Picked → Type 0 = λ q. Has q found → ⊥ in
       wrong (sym (each_has (λ (d : Card). is_idle d.front ≡ false) c.0 start none c.1) ∙ unfound_idle n found start c.0 fits c.1 (subst N c.2 unfound))
 
-  none_left : (n : ℕ) (found : List Picked) (start : List Card) (rest : List Picked) → map picked_of start ≡ map picked_of w → Each (FitsRound false n found) start → crowd w ≡ found ++ rest → NoneIdle start → rest ≡ []
+  none_left : (n : ℕ) (found : List Picked) (start : List Card) (rest : List Picked) → map picked_of start ≡ map picked_of w → Each (FitsRound false n found) start → crowd w ≡ found ++ rest
+      → NoneIdle start → rest ≡ []
   none_left n found start [] same fits known none = refl
   none_left n found start (z ∷ zs) same fits known none =
       let H : List Picked → Type 0 = λ t. Has z t in
@@ -164,7 +167,8 @@ module _ {L : Type 0} (m : Machine L) {identifier' : L → List ℕ} (polled : A
       nobody found c.others (c.rest, c.known) (inr (misses es now round c.here some (two_noisy ts now r.earlier r.all q.0 q.1)))
 
   -- a device is picked
-  module _ (round : ℕ) (found : List Picked) (now : List Event) (a : World L) (es : List Event) (start : List Card) (ts : List Turn) (c : Rounds round found now a es) (r : Resolves w found start ts now)
+  module _ (round : ℕ) (found : List Picked) (now : List Event) (a : World L) (es : List Event) (start : List Card) (ts : List Turn) (c : Rounds round found now a es)
+      (r : Resolves w found start ts now)
       (ls : List (List ℕ)) (kind : Kind) (k : PickedFrom start ls kind (cards_of a)) where
     abbrev p : Picked
     p = record { id = identifier ls; kind = kind }
@@ -296,7 +300,8 @@ module _ {L : Type 0} (m : Machine L) {identifier' : L → List ℕ} (polled : A
   found_nobody : (ls : List (List ℕ)) (kind : Kind) → ◌≡◌ {A = Outcome} (Found ls kind) Nobody → ⊥
   found_nobody ls kind e = cc
 
-  lands_end : (o : Outcome) (round : ℕ) (found : List Picked) (now : List Event) (a : World L) (es : List Event) (start : List Card) (ts : List Turn) → Rounds round found now a es → Resolves w found start ts now
+  lands_end : (o : Outcome) (round : ℕ) (found : List Picked) (now : List Event) (a : World L) (es : List Event) (start : List Card) (ts : List Turn) → Rounds round found now a es
+      → Resolves w found start ts now
       → EndsWith start o (cards_of a) ts (noise now) → Holds (sought aim next_round round found (Ended o)) a es
   lands_end Nobody round found now a es start ts c r (inl p) = absurd (no_found Nobody _ _ p.seeks.0)
   lands_end Nobody round found now a es start ts c r (inr (inl e)) = absurd (nobody_disturbed e.0)
@@ -311,7 +316,8 @@ module _ {L : Type 0} (m : Machine L) {identifier' : L → List ℕ} (polled : A
   lands_end (Found ls kind) round found now a es start ts c r (inr (inl e)) = absurd (found_disturbed ls kind e.0)
   lands_end (Found ls kind) round found now a es start ts c r (inr (inr e)) = absurd (found_nobody ls kind e.0)
 
-  pub lands : (s : Seek) (round : ℕ) (found : List Picked) (now : List Event) (a : World L) (es : List Event) (start : List Card) (ts : List Turn) → Rounds round found now a es → Resolves w found start ts now
+  pub lands : (s : Seek) (round : ℕ) (found : List Picked) (now : List Event) (a : World L) (es : List Event) (start : List Card) (ts : List Turn) → Rounds round found now a es
+      → Resolves w found start ts now
       → SoughtFrom start s (cards_of a) ts (noise now) → Holds (sought aim next_round round found s) a es
   lands (Calling n) round found now a es start ts c r q = record { now = now; common = c; start = start; ts = ts; resolves = r; sought = q }
   lands (Asking done known) round found now a es start ts c r q = record { now = now; common = c; start = start; ts = ts; resolves = r; sought = q }

@@ -87,7 +87,8 @@ module _ (w : Option (List ℕ)) (found : List Picked) where
   disturbed_at (Ended BadAnswer) q = absurd cc
   disturbed_at (Ended (Found ls kind)) q = absurd cc
 
-  fault_at : (t : Seek) (f : PollFault) → (f ≡ faults.Nobody → ⊥) → (f ≡ faults.Disturbed → ⊥) → ◌≡◌ {A = Result Picked PollFault} (Err f) (or_memory (seek_ended t)) → Err f ≡ or_memory (search_ended (round_of w) (seeks_in t))
+  fault_at : (t : Seek) (f : PollFault) → (f ≡ faults.Nobody → ⊥) → (f ≡ faults.Disturbed → ⊥) → ◌≡◌ {A = Result Picked PollFault} (Err f) (or_memory (seek_ended t))
+      → Err f ≡ or_memory (search_ended (round_of w) (seeks_in t))
   fault_at (Calling k) f a b q = ap (λ r. Err (fault_in f r)) q
   fault_at (Asking done known) f a b q = ap (λ r. Err (fault_in f r)) q
   fault_at (Selecting done l) f a b q = ap (λ r. Err (fault_in f r)) q
@@ -143,12 +144,15 @@ module _ (w : Option (List ℕ)) (found : List Picked) where
     pub device_met : (mid : Air L) (p : Picked) → Reached (one_round w) m old mid (Seeks 1 found (Calling 0)) → Enquires resolution m mid (Ok p) new → Reached (one_round w) m old new (met_in p)
     device_met mid p k q = let a = reached_then resolution (one_round w) seeks_in seeks_embed m old mid new (Ok p) k q in device_by p a.0 a.1
 
-    pub nobody_left : (mid : Air L) → Reached (one_round w) m old mid (Seeks 1 found (Calling 0)) → Enquires resolution m mid (Err faults.Nobody) new → Enquires (one_round w) m old (Ok (ends.Nobody found)) new
+    pub nobody_left : (mid : Air L) → Reached (one_round w) m old mid (Seeks 1 found (Calling 0)) → Enquires resolution m mid (Err faults.Nobody) new
+        → Enquires (one_round w) m old (Ok (ends.Nobody found)) new
     nobody_left mid k q = let a = reached_then resolution (one_round w) seeks_in seeks_embed m old mid new (Err faults.Nobody) k q in nobody_by a.0 a.1
 
-    pub given_up : (mid : Air L) → Reached (one_round w) m old mid (Seeks 1 found (Calling 0)) → Enquires resolution m mid (Err faults.Disturbed) new → Enquires (one_round w) m old (Ok ends.Disturbed) new
+    pub given_up : (mid : Air L) → Reached (one_round w) m old mid (Seeks 1 found (Calling 0)) → Enquires resolution m mid (Err faults.Disturbed) new
+        → Enquires (one_round w) m old (Ok ends.Disturbed) new
     given_up mid k q = let a = reached_then resolution (one_round w) seeks_in seeks_embed m old mid new (Err faults.Disturbed) k q in disturbed_by a.0 a.1
 
-    pub fault_told : (mid : Air L) (f : PollFault) → (f ≡ faults.Nobody → ⊥) → (f ≡ faults.Disturbed → ⊥) → Reached (one_round w) m old mid (Seeks 1 found (Calling 0)) → Enquires resolution m mid (Err f) new
+    pub fault_told : (mid : Air L) (f : PollFault) → (f ≡ faults.Nobody → ⊥) → (f ≡ faults.Disturbed → ⊥) → Reached (one_round w) m old mid (Seeks 1 found (Calling 0))
+        → Enquires resolution m mid (Err f) new
         → Enquires (one_round w) m old (Err f) new
     fault_told mid f x y k q = let a = reached_then resolution (one_round w) seeks_in seeks_embed m old mid new (Err f) k q in fault_by f x y a.0 a.1

@@ -31,7 +31,8 @@ joint_due next before Nothing y = tt
 joint_due next before (Single g) y = tt
 joint_due next before (Clashing g) y = tt
 
-turn_due : {W : Type 0} (m : AirModel W) (next : List Note → Next) (before : List Event) (w : W) (f : Signal) (x y : Fate) → next (receptions before) ≡ Asks f → EachDue next before (turn_events m w f x y)
+turn_due : {W : Type 0} (m : AirModel W) (next : List Note → Next) (before : List Event) (w : W) (f : Signal) (x y : Fate) → next (receptions before) ≡ Asks f
+    → EachDue next before (turn_events m w f x y)
 turn_due m next before w f Pass y h = (h, joint_due next (before ++ Request f Pass ∷ []) (m.joint w f) y)
 turn_due m next before w f Damage y h = (h, tt)
 turn_due m next before w f Lose y h = (h, tt)

@@ -55,7 +55,8 @@ module _ {S X : Type 0} (e : Enquiry S X) {L : Type 0} (m : Machine L) where
       → LitSince w (after e (Reaches s) (note (turn_heard (mute_air m) (replay (mute_air m) w es) f x y))) (es ++ turn_events (mute_air m) (replay (mute_air m) w es) f x y)
   lit_turn w s es f x y k q l = lit_by w s es f x y (turn_heard (mute_air m) (replay (mute_air m) w es) f x y) refl l
 
-  lit_end : (w : World L) (es : List Event) (r : Result X PollFault) (new : Air L) (p : Progress S) → e.ended e.start ≡ None → LitSince w p es → (moment new).world ≡ replay (mute_air m) w es → r ≡ answer_of e p → LeavesLit r new
+  lit_end : (w : World L) (es : List Event) (r : Result X PollFault) (new : Air L) (p : Progress S) → e.ended e.start ≡ None → LitSince w p es → (moment new).world ≡ replay (mute_air m) w es
+      → r ≡ answer_of e p → LeavesLit r new
   lit_end w es r new (Reaches s) n (inl same) world q =
       let P : Result X PollFault → Type 0 = λ t. LeavesLit t new in
       let none : r ≡ Err Memory = q ∙ ap (λ t. or_memory (e.ended t)) same ∙ ap or_memory n in

@@ -47,7 +47,8 @@ module _ {S X : Type 0} (e : Enquiry S X) {W : Type 0} (m : AirModel W) (Inv : S
   ends_by Loses w es k = loses
 
   -- an enquiry, whole
-  pub ending : Keeps → (old new : Moment W) (notes : List Note) (r : Result X PollFault) → Inv e.start old.world [] → (g : Going m (enquiring e) old new notes) → r ≡ answer_of e (progress e e.start notes)
+  pub ending : Keeps → (old new : Moment W) (notes : List Note) (r : Result X PollFault) → Inv e.start old.world [] → (g : Going m (enquiring e) old new notes)
+      → r ≡ answer_of e (progress e e.start notes)
       → Ending new.world g.events r
   ending keeps old new notes r start g c =
       let w : W = old.world in

@@ -9,7 +9,8 @@ use Rattle.nfc_base.specs.declared.event.Event.TheVariants.{Reset, Request, Answ
 use Rattle.nfc_base.specs.declared.event.Fate.{Fate}
 use Rattle.nfc_base.specs.declared.event.Fate.TheVariants.{Pass, Damage, Lose, Break}
 use Rattle.air_core.specs.Joint.{Joint, Nothing, Single, Clashing}
-use Rattle.air_core.specs.Conversation.{AirModel, Note, Lit, Got, Lost, note, Next, Over, LightUp, Asks, IsDemand, receptions, EachDue, joint_events, joint_back, replay, turn_events, turn_heard, Move, Light, Ask, move_events, trace_of, Moment, Going}
+use Rattle.air_core.specs.Conversation.{AirModel, Note, Lit, Got, Lost, note, Next, Over, LightUp, Asks, IsDemand, receptions, EachDue, joint_events, joint_back, replay, turn_events, turn_heard, Move}
+use Rattle.air_core.specs.Conversation.{Light, Ask, move_events, trace_of, Moment, Going}
 use Rattle.air_core.proofs.Turns.{receptions-append, replay-append}
 use Rattle.nfca_poll.specs.Enquiry.{Enquiry, Progress, Reaches, Loses, progress, due_of, enquiring}
 

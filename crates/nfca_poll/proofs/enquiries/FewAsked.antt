@@ -1,5 +1,6 @@
 -- A resolution asks only so often.
-use Rattle.std.proofs.Common.{◌≡◌, ℕ, ◌+◌, ◌-◌, ◌<◌, ◌≤◌, List, [], ◌∷◌, ◌++◌, length, drop, get_or, Bool, true, false, ◌==◌, ◌&&◌, nat_lt, nat_le, if◌then◌else◌, refl, sym, ◌∙◌, ap, subst, append_assoc, arith, Option, Some, None, Ok, Err}
+use Rattle.std.proofs.Common.{◌≡◌, ℕ, ◌+◌, ◌-◌, ◌<◌, ◌≤◌, List, [], ◌∷◌, ◌++◌, length, drop, get_or, Bool, true, false, ◌==◌, ◌&&◌, nat_lt, nat_le, if◌then◌else◌, refl, sym, ◌∙◌, ap, subst}
+use Rattle.std.proofs.Common.{append_assoc, arith, Option, Some, None, Ok, Err}
 use Rattle.std.proofs.lemmas.List.{length-append}
 use Rattle.nfc_base.specs.declared.event.Event.{Event}
 use Rattle.nfc_base.specs.declared.event.Event.TheVariants.{Reset, Request, Answer, Clash}
@@ -89,7 +90,8 @@ wakes k n h = record { there = omega arith; sens = omega (arith, h); sdd = by_te
     by_one true = omega arith
     by_one false = omega arith
 
-completes : (k : ℕ) (done : List (List ℕ)) (known : List Bool) (l : List ℕ) → length known ≤ 32 → (v : Bool) → Costs k (Asking done known) 0 (one_if (length done + 1 == k)) 0 (if v then Selecting done l else Ended BadAnswer)
+completes : (k : ℕ) (done : List (List ℕ)) (known : List Bool) (l : List ℕ) → length known ≤ 32 → (v : Bool)
+    → Costs k (Asking done known) 0 (one_if (length done + 1 == k)) 0 (if v then Selecting done l else Ended BadAnswer)
 completes k done known l h true = record { there = tt; sens = omega arith; sdd = cost k (length done + 1) (length known) h; sel = omega arith }
   where
     cost : (a b n : ℕ) → n ≤ 32 → one_if (b == a) + (if nat_lt b a then 33 else 0) ≤ (if a == b then 33 - n else if nat_lt b a then 33 else 0)
@@ -144,7 +146,8 @@ sels_on k done l =
     cost a n t e = grind arith
 
 selects : (k : ℕ) (done : List (List ℕ)) (l : List ℕ) (kind : Kind) (b v : Bool)
-    → Costs k (Selecting done l) 0 0 (one_if (length done + 1 == k)) (if b then (if v then Asking (done ++ l ∷ []) [] else Ended BadAnswer) else (if v then Ended BadAnswer else Ended (Found (done ++ l ∷ []) kind)))
+    → Costs k (Selecting done l) 0 0 (one_if (length done + 1 == k)) (if b then (if v then Asking (done ++ l ∷ []) [] else Ended BadAnswer)
+    else (if v then Ended BadAnswer else Ended (Found (done ++ l ∷ []) kind)))
 selects k done l kind true true = sels_on k done l
 selects k done l kind true false = sels_end k done l BadAnswer
 selects k done l kind false true = sels_end k done l BadAnswer
@@ -230,8 +233,10 @@ few_done (dones.Two x y) = omega arith
 
 sens_ok : (q : Seeking) → IsThere (seek_of q) → one_if (is_sens_req (request_of q)) ≤ sens_at q
 sens_ok (seeks.Calling n) t = omega arith
-sens_ok (seeks.Asking d known) t = none_of (is_sens_req (request_of (seeks.Asking d known))) (no_short 0x26 (request_of (seeks.Asking d known)) (sdd_two (length (levels_of d) + 1) known (few_done d) t))
-sens_ok (seeks.Selecting d l) t = none_of (is_sens_req (request_of (seeks.Selecting d l))) (no_short 0x26 (request_of (seeks.Selecting d l)) (two_more (sel_cmd (length (levels_of d) + 1)) all_known l))
+sens_ok (seeks.Asking d known) t = none_of (is_sens_req (request_of (seeks.Asking d known)))
+    (no_short 0x26 (request_of (seeks.Asking d known)) (sdd_two (length (levels_of d) + 1) known (few_done d) t))
+sens_ok (seeks.Selecting d l) t = none_of (is_sens_req (request_of (seeks.Selecting d l)))
+    (no_short 0x26 (request_of (seeks.Selecting d l)) (two_more (sel_cmd (length (levels_of d) + 1)) all_known l))
 
 sdd_ok : (k : ℕ) (q : Seeking) → IsThere (seek_of q) → one_if (is_sdd_req k (request_of q)) ≤ sdd_at k q
 sdd_ok k (seeks.Calling n) t = omega arith
@@ -250,7 +255,8 @@ sel_ok k (seeks.Asking d known) t =
     let f : Signal = request_of (seeks.Asking d known) in
     let par : get_or f.bytes 1 0 ≡ sel_par (length known) = ap (λ b. get_or b 1 0) (sdd_bytes n known (few_done d) t) in
     let not : is_sel f ≡ false =
-    ap (λ b. (f.tail == 0) && (length f.bytes == 7) && is_sel_cmd (get_or f.bytes 0 0) && (b == all_known)) par ∙ not_sel (f.tail == 0) (length f.bytes == 7) (is_sel_cmd (get_or f.bytes 0 0)) (length known) t in
+    ap (λ b. (f.tail == 0) && (length f.bytes == 7) && is_sel_cmd (get_or f.bytes 0 0) && (b == all_known)) par
+    ∙ not_sel (f.tail == 0) (length f.bytes == 7) (is_sel_cmd (get_or f.bytes 0 0)) (length known) t in
     none_of (is_sel_req k f) (ap (λ v. v && (cmd_level (get_or f.bytes 0 0) == k)) not)
 sel_ok k (seeks.Selecting d l) t =
     let n : ℕ = length (levels_of d) + 1 in
@@ -314,15 +320,19 @@ module _ {L : Type 0} (m : Machine L) where
       → TurnsTo (mute_air m) (moment now) (moment new) f o → Counted old new (seek_step (seek_of q) h)
   counted_by old now new q f o h k r e t = record {
     there = (step_costs 0 q h k.there).there;
-    sens = adds _ _ _ (sens_at q) (left_sens (seek_of q)) (left_sens (seek_step (seek_of q) h)) 4 (one_more is_sens_req old now new (seek_of q) f o r t) (here is_sens_req (sens_at q) (sens_ok q k.there)) (step_costs 0 q h k.there).sens k.sens;
-    sdd = λ j. adds _ _ _ (sdd_at j q) (left_sdd j (seek_of q)) (left_sdd j (seek_step (seek_of q) h)) 33 (one_more (is_sdd_req j) old now new (seek_of q) f o r t) (here (is_sdd_req j) (sdd_at j q) (sdd_ok j q k.there)) (step_costs j q h k.there).sdd (k.sdd j);
-    sel = λ j. adds _ _ _ (sel_at j q) (left_sel j (seek_of q)) (left_sel j (seek_step (seek_of q) h)) 1 (one_more (is_sel_req j) old now new (seek_of q) f o r t) (here (is_sel_req j) (sel_at j q) (sel_ok j q k.there)) (step_costs j q h k.there).sel (k.sel j);
+    sens = adds _ _ _ (sens_at q) (left_sens (seek_of q)) (left_sens (seek_step (seek_of q) h)) 4 (one_more is_sens_req old now new (seek_of q) f o r t)
+        (here is_sens_req (sens_at q) (sens_ok q k.there)) (step_costs 0 q h k.there).sens k.sens;
+    sdd = λ j. adds _ _ _ (sdd_at j q) (left_sdd j (seek_of q)) (left_sdd j (seek_step (seek_of q) h)) 33 (one_more (is_sdd_req j) old now new (seek_of q) f o r t)
+        (here (is_sdd_req j) (sdd_at j q) (sdd_ok j q k.there)) (step_costs j q h k.there).sdd (k.sdd j);
+    sel = λ j. adds _ _ _ (sel_at j q) (left_sel j (seek_of q)) (left_sel j (seek_step (seek_of q) h)) 1 (one_more (is_sel_req j) old now new (seek_of q) f o r t)
+        (here (is_sel_req j) (sel_at j q) (sel_ok j q k.there)) (step_costs j q h k.there).sel (k.sel j);
   }
     where
       here : (p : Signal → Bool) (n : ℕ) → one_if (p (request_of q)) ≤ n → one_if (p f) ≤ n
       here p n i = let P : Signal → Type 0 = λ x. one_if (p x) ≤ n in subst P (sym e) i
 
-  pub counted_turn : (old now new : Air L) (q : Seeking) (f : Signal) (h : Heard) → Counted old now (seek_of q) → Reached resolution m old now (seek_of q) → f ≡ request_of q → AskEnds m now f (Ok h) new
+  pub counted_turn : (old now new : Air L) (q : Seeking) (f : Signal) (h : Heard) → Counted old now (seek_of q) → Reached resolution m old now (seek_of q) → f ≡ request_of q
+      → AskEnds m now f (Ok h) new
       → Counted old new (seek_step (seek_of q) h)
   counted_turn old now new q f h k r e t = counted_by old now new q f (Some h) h k r e t.0
 
@@ -333,7 +343,8 @@ module _ {L : Type 0} (m : Machine L) where
     sel = λ j. (let a = k.sel j in omega (arith, a));
   }
 
-  pub few_err : (old now new : Air L) (q : Seeking) (f : Signal) (fault : PollFault) → Counted old now (seek_of q) → Reached resolution m old now (seek_of q) → f ≡ request_of q → AskEnds m now f (Err fault) new
+  pub few_err : (old now new : Air L) (q : Seeking) (f : Signal) (fault : PollFault) → Counted old now (seek_of q) → Reached resolution m old now (seek_of q) → f ≡ request_of q
+      → AskEnds m now f (Err fault) new
       → AsksFew (drop (length old.trace) new.trace)
   few_err old now new q f faults.Nobody k r e t = absurd t
   few_err old now new q f faults.Disturbed k r e t = absurd t

@@ -1,5 +1,6 @@
 -- A call by rounds that is disturbed gave up each of its rounds, over any listeners: by what was heard, or since an identifier came again.
-use Rattle.std.proofs.Common.{◌≡◌, inl, inr, ◌<◌, ◌≤◌, ℕ, ◌+◌, ◌-◌, List, [], ◌∷◌, ◌++◌, length, drop, take, map, slice_index, Bool, true, false, not, ◌&&◌, ◌||◌, nat_lt, nat_le, if◌then◌else◌, Option, Some, None, Result, Err, refl, sym, ◌∙◌, ap, subst, append_assoc, arith, take_all}
+use Rattle.std.proofs.Common.{◌≡◌, inl, inr, ◌<◌, ◌≤◌, ℕ, ◌+◌, ◌-◌, List, [], ◌∷◌, ◌++◌, length, drop, take, map, slice_index, Bool, true, false, not, ◌&&◌, ◌||◌, nat_lt, nat_le, if◌then◌else◌}
+use Rattle.std.proofs.Common.{Option, Some, None, Result, Err, refl, sym, ◌∙◌, ap, subst, append_assoc, arith, take_all}
 use Rattle.std.specs.List.{list_any}
 use Rattle.std.proofs.lemmas.List.{append-nil, length-append}
 use Rattle.std.proofs.lemmas.List.Folds.{list_any-append}
@@ -23,9 +24,11 @@ use Rattle.nfca_poll.specs.Levels.{identifier}
 use Rattle.nfca_poll.specs.Calls.{Reading, Calls, Sens, Slp, Sdd, Sel, call_of, call_frame}
 use Rattle.nfca_poll.specs.Crowd.{Each}
 use Rattle.nfca_poll.specs.Enquiry.{Progress, Reaches, Loses, progress, answer_of, Enquires}
-use Rattle.nfca_poll.specs.Poll.{Seek, Calling, Asking, Selecting, Ended, Nobody, Disturbed, BadAnswer, Found, seek_step, seek_next, selected, goes_on, kind_of, has_bit, is_one_byte, is_level, collision_bits}
+use Rattle.nfca_poll.specs.Poll.{Seek, Calling, Asking, Selecting, Ended, Nobody, Disturbed, BadAnswer, Found, seek_step, seek_next, selected, goes_on, kind_of, has_bit, is_one_byte, is_level}
+use Rattle.nfca_poll.specs.Poll.{collision_bits}
 use Rattle.nfca_poll.specs.Seeking.{resolution}
-use Rattle.nfca_poll.specs.Rounds.{Aim, Search, Begins, Seeks, Sends, Told, most_rounds, most_found, next_round, has_found, is_same, met_or_taken, sought, searching, search_lit, search_next, finding, picking, all_devices, device_of}
+use Rattle.nfca_poll.specs.Rounds.{Aim, Search, Begins, Seeks, Sends, Told, most_rounds, most_found, next_round, has_found, is_same, met_or_taken, sought, searching, search_lit, search_next, finding}
+use Rattle.nfca_poll.specs.Rounds.{picking, all_devices, device_of}
 use Rattle.nfca_poll.specs.RoundTrace.{rounds}
 use Rattle.nfca_poll.specs.ByHeard.{has_missed}
 use Rattle.nfca_poll.specs.Twice.{Named, named_by, named_after, with_levels, is_last, selected_ids, IsGivenUp, AllGivenUp}
@@ -99,7 +102,8 @@ module _ (found : List Picked) where
     last : n.ids ++ identifier there ∷ [] ≡ ids_of found ++ identifier (done ++ l ∷ []) ∷ []
     last = ap (λ ids. ids ++ identifier there ∷ []) s.0 ∙ ap (λ ls. ids_of found ++ identifier ls ∷ []) there_is
 
-    res_heard : (res : ℕ) (v g : Bool) → Stands found (if v then (if g then Asking (done ++ l ∷ []) [] else Ended BadAnswer) else (if g then Ended BadAnswer else Ended (Found (done ++ l ∷ []) (kind_of res)))) (with_levels n there (not v))
+    res_heard : (res : ℕ) (v g : Bool) → Stands found (if v then (if g then Asking (done ++ l ∷ []) [] else Ended BadAnswer)
+        else (if g then Ended BadAnswer else Ended (Found (done ++ l ∷ []) (kind_of res)))) (with_levels n there (not v))
     res_heard res true true = (s.0, goes)
     res_heard res true false = tt
     res_heard res false true = tt
@@ -320,17 +324,21 @@ module _ {X : Type 0} (aim : Aim X) where
     tells Loses es k e = absurd cc
 
     -- a call that is disturbed gave each of four rounds up
-    call_given_up : {L : Type 0} (m : Machine L) (old new : Air L) (r : Result X PollFault) → Enquires (searching aim) m old r new → r ≡ Err faults.Disturbed → AllGivenUp (drop (length old.trace) new.trace)
+    call_given_up : {L : Type 0} (m : Machine L) (old new : Air L) (r : Result X PollFault) → Enquires (searching aim) m old r new → r ≡ Err faults.Disturbed
+        → AllGivenUp (drop (length old.trace) new.trace)
     call_given_up m old new r q e =
         let G : List Event → Type 0 = λ es. AllGivenUp es in
         subst G (sym (events_gained (searching aim) m old new r q))
         (tells (progress (searching aim) (Begins 1) q.notes) q.going.events
         (holds (searching aim) (mute_air m) (moment old).world At (tt, refl, omega arith) lit_at
-        (λ s es f x y k due lit. asked_by m (replay (mute_air m) (moment old).world es) es f x y s (turn_heard (mute_air m) (replay (mute_air m) (moment old).world es) f x y) refl k due) (moment old) (moment new) q.notes refl q.going)
+        (λ s es f x y k due lit. asked_by m (replay (mute_air m) (moment old).world es) es f x y s (turn_heard (mute_air m) (replay (mute_air m) (moment old).world es) f x y) refl k due) (moment old)
+        (moment new) q.notes refl q.going)
         (sym q.comes ∙ e))
 
-pub find_given_up : {L : Type 0} (m : Machine L) (old new : Air L) (r : Result (List Picked) PollFault) → Enquires finding m old r new → r ≡ Err faults.Disturbed → AllGivenUp (drop (length old.trace) new.trace)
+pub find_given_up : {L : Type 0} (m : Machine L) (old new : Air L) (r : Result (List Picked) PollFault) → Enquires finding m old r new → r ≡ Err faults.Disturbed
+    → AllGivenUp (drop (length old.trace) new.trace)
 find_given_up m old new r q = call_given_up all_devices (λ found e. cc) m old new r q
 
-pub pick_given_up : {L : Type 0} (m : Machine L) (id : List ℕ) (old new : Air L) (r : Result Kind PollFault) → Enquires (picking id) m old r new → r ≡ Err faults.Disturbed → AllGivenUp (drop (length old.trace) new.trace)
+pub pick_given_up : {L : Type 0} (m : Machine L) (id : List ℕ) (old new : Air L) (r : Result Kind PollFault) → Enquires (picking id) m old r new → r ≡ Err faults.Disturbed
+    → AllGivenUp (drop (length old.trace) new.trace)
 pick_given_up m id old new r q = call_given_up (device_of id) (λ found e. cc) m old new r q

@@ -1,5 +1,6 @@
 -- Each step of a resolution, and that it comes to an end.
-use Rattle.std.proofs.Common.{◌≡◌, ℕ, suc, ◌+◌, ◌-◌, ◌*◌, ◌<◌, ◌≤◌, List, [], ◌∷◌, ◌++◌, length, drop, get_or, Bool, true, false, ◌==◌, ◌&&◌, nat_lt, nat_le, if◌then◌else◌, Result, Ok, refl, sym, ◌∙◌, ap, arith}
+use Rattle.std.proofs.Common.{◌≡◌, ℕ, suc, ◌+◌, ◌-◌, ◌*◌, ◌<◌, ◌≤◌, List, [], ◌∷◌, ◌++◌, length, drop, get_or, Bool, true, false, ◌==◌, ◌&&◌, nat_lt, nat_le, if◌then◌else◌, Result, Ok, refl, sym, ◌∙◌}
+use Rattle.std.proofs.Common.{ap, arith}
 use Rattle.std.proofs.lemmas.List.{length-take-le, length-append, length-drop}
 use Rattle.nfc_base.specs.Signal.{Signal}
 use Rattle.nfc_base.specs.Bits.{bits, bits_of, bit_count, packed}
@@ -12,7 +13,8 @@ use Rattle.nfca_poll.specs.declared.fault.PollFault.{PollFault}
 use Rattle.nfca_poll.specs.declared.seeking.Seeking.{Seeking}
 use Rattle.nfca_poll.specs.declared.seeking.Seeking.TheVariants as seeks
 use Rattle.nfca_poll.specs.Levels.{bcc, identifier, cascades}
-use Rattle.nfca_poll.specs.Poll.{Seek, Calling, Asking, Selecting, Ended, Found, Nobody, BadAnswer, seek_step, completed, narrowed, selected, goes_on, kind_of, has_bit, is_one_byte, level_bits, collision_bits}
+use Rattle.nfca_poll.specs.Poll.{Seek, Calling, Asking, Selecting, Ended, Found, Nobody, BadAnswer, seek_step, completed, narrowed, selected, goes_on, kind_of, has_bit, is_one_byte, level_bits}
+use Rattle.nfca_poll.specs.Poll.{collision_bits}
 use Rattle.nfca_poll.specs.Seeking.{seek_of, levels_of, outcome}
 use Rattle.nfca_poll.proofs.identifiers.KnownPacks.{packed_more, packed_empty}
 
@@ -25,10 +27,12 @@ known_size known f h = length-append known (bits f) ∙ ap (λ n. length known +
 pub not_complete : (done : List (List ℕ)) (known : List Bool) → (length known == level_bits) ≡ false → completed done known ≡ Ended BadAnswer
 not_complete done known h = ap (λ v. if v && (get_or (packed known) 4 0 == bcc (packed known)) then Selecting done (packed known) else Ended BadAnswer) h
 
-pub is_complete : (done : List (List ℕ)) (known : List Bool) (l : List ℕ) → (length known == level_bits) ≡ true → l ≡ packed known → (get_or l 4 0 == bcc l) ≡ true → Selecting done l ≡ completed done known
+pub is_complete : (done : List (List ℕ)) (known : List Bool) (l : List ℕ) → (length known == level_bits) ≡ true → l ≡ packed known → (get_or l 4 0 == bcc l) ≡ true
+    → Selecting done l ≡ completed done known
 is_complete done known l h e c =
     let ok : (get_or (packed known) 4 0 == bcc (packed known)) ≡ true = ap (λ t. get_or t 4 0 == bcc t) (sym e) ∙ c in
-    ap (Selecting done) e ∙ sym (ap (λ v. if v && (get_or (packed known) 4 0 == bcc (packed known)) then Selecting done (packed known) else Ended BadAnswer) h ∙ ap (λ v. if v then Selecting done (packed known) else Ended BadAnswer) ok)
+    ap (Selecting done) e ∙ sym (ap (λ v. if v && (get_or (packed known) 4 0 == bcc (packed known)) then Selecting done (packed known) else Ended BadAnswer) h
+    ∙ ap (λ v. if v then Selecting done (packed known) else Ended BadAnswer) ok)
 
 pub too_far : (done : List (List ℕ)) (known : List Bool) → nat_le collision_bits (length known) ≡ true → narrowed done known ≡ Ended BadAnswer
 too_far done known h = ap (λ v. if v then Ended BadAnswer else Asking done (known ++ true ∷ [])) h

@@ -1,5 +1,6 @@
 -- What a question which devices are there answers follows from what it heard.
-use Rattle.std.proofs.Common.{◌≡◌, ◌<◌, ◌≤◌, ℕ, ◌+◌, List, [], ◌∷◌, ◌++◌, length, filter, Bool, true, false, not, ◌||◌, nat_lt, if◌then◌else◌, Option, Some, None, Result, Ok, Err, refl, sym, ◌∙◌, ap, subst, arith}
+use Rattle.std.proofs.Common.{◌≡◌, ◌<◌, ◌≤◌, ℕ, ◌+◌, List, [], ◌∷◌, ◌++◌, length, filter, Bool, true, false, not, ◌||◌, nat_lt, if◌then◌else◌, Option, Some, None, Result, Ok, Err, refl, sym, ◌∙◌, ap}
+use Rattle.std.proofs.Common.{subst, arith}
 use Rattle.std.specs.List.{list_any}
 use Rattle.std.proofs.lemmas.List.{length-append}
 use Rattle.std.proofs.lemmas.List.Elements.{filter-append}
@@ -136,13 +137,25 @@ module _ {X : Type 0} (p : Presence X) (apart : IsApart p) where
     bad = (λ e. absurd (d e), λ e. absurd (not_both (has_strange p.shows us) strange e));
   }
 
-  whole_tells : (v : Bool) (g : _) (us : List Turn) (n : ℕ) → n < 4 → silences us + damages us ≡ n → has_clash us ≡ false → (not v ≡ false → has_strange p.shows us ≡ false) → (not v ≡ true → has_strange p.shows us ≡ true)
+  whole_tells : (v : Bool) (g : _) (us : List Turn) (n : ℕ) → n < 4 → silences us + damages us ≡ n → has_clash us ≡ false → (not v ≡ false → has_strange p.shows us ≡ false)
+      → (not v ≡ true → has_strange p.shows us ≡ true)
       → At (Reaches (if v then Told (Ok (p.one g)) else Told (Err faults.BadAnswer))) us
   whole_tells true g us n few sum clash well ill = tells_other us n (Ok (p.one g)) few sum clash (well refl) (λ e. apart.one g (ok_in e)) (λ e. apart.crowd g (ok_in e)) (λ e. cc) (λ e. cc)
   whole_tells false g us n few sum clash well ill = tells_bad us n few sum clash (ill refl)
 
   by_heard : (n : ℕ) (d : Bool) (ts us : List Turn) (o : Option Heard) → Vain n d ts → n < 4 → Adds ts us o → At (after asking (Reaches (Tries n d)) (note o)) us
-  by_heard n d ts us None v few a = (n, d, record { clash = a.clash refl ∙ v.clash; strange = a.strange refl ∙ v.strange; sum = omega (arith, a.silent, a.damage, v.sum); some = λ e. omega (arith, a.damage, v.some e); none = λ e. omega (arith, a.damage, v.none e) }, few)
+  by_heard n d ts us None v few a = (
+    n,
+    d,
+    record {
+      clash = a.clash refl ∙ v.clash;
+      strange = a.strange refl ∙ v.strange;
+      sum = omega (arith, a.silent, a.damage, v.sum);
+      some = λ e. omega (arith, a.damage, v.some e);
+      none = λ e. omega (arith, a.damage, v.none e);
+    },
+    few,
+  )
   by_heard n d ts us (Some (Whole g)) v few a =
       whole_tells (p.shows g) g us n few (omega (arith, a.silent, a.damage, v.sum)) (a.clash refl ∙ v.clash) (λ e. a.strange e ∙ v.strange) a.stranger
   by_heard n d ts us (Some (Collided g)) v few a = tells_crowd us n few (omega (arith, a.silent, a.damage, v.sum)) (a.clashed refl) (a.strange refl ∙ v.strange)
@@ -151,7 +164,13 @@ module _ {X : Type 0} (p : Presence X) (apart : IsApart p) where
     omega (arith, few),
   )
   by_heard n d ts us (Some Silent) v few a = (
-    record { clash = a.clash refl ∙ v.clash; strange = a.strange refl ∙ v.strange; sum = omega (arith, a.silent, a.damage, v.sum); some = λ e. omega (arith, a.damage, v.some e); none = λ e. omega (arith, a.damage, v.none e) },
+    record {
+      clash = a.clash refl ∙ v.clash;
+      strange = a.strange refl ∙ v.strange;
+      sum = omega (arith, a.silent, a.damage, v.sum);
+      some = λ e. omega (arith, a.damage, v.some e);
+      none = λ e. omega (arith, a.damage, v.none e);
+    },
     omega (arith, few),
   )
 
@@ -163,7 +182,8 @@ module _ {X : Type 0} (p : Presence X) (apart : IsApart p) where
   never_lit s ts k e = k
 
   -- how it ends
-  tried : (n : ℕ) (d : Bool) (ts : List Turn) → Vain n d ts → n ≤ 4 → (v : Bool) → nat_lt n tries ≡ v → TellsPresence p ts (or_memory (if v then None else Some (if d then Err faults.Disturbed else Ok p.nobody)))
+  tried : (n : ℕ) (d : Bool) (ts : List Turn) → Vain n d ts → n ≤ 4 → (v : Bool) → nat_lt n tries ≡ v
+      → TellsPresence p ts (or_memory (if v then None else Some (if d then Err faults.Disturbed else Ok p.nobody)))
   tried n d ts v most true h = tells_other ts n (Err faults.Memory) (less_of n 4 h) v.sum v.clash v.strange (λ e. cc) (λ e. cc) (λ e. cc) (λ e. cc)
   tried n true ts v most false h = record {
     nobody = (λ e. absurd cc, λ e. absurd (omega (arith, v.sum, v.some refl, most, e)));

@@ -67,7 +67,8 @@ tells_other us n f few sum shown strange a b = record {
   bad = (λ e. absurd (b e), λ e. absurd (not_both (has_no_present us) strange e));
 }
 
-whole_tells : (v : Bool) (us : List Turn) (n : ℕ) → n < 4 → silences us ≡ n → (v ≡ false → has_shown us ≡ false) → (v ≡ true → has_shown us ≡ true) → (not v ≡ false → has_no_present us ≡ false) → (not v ≡ true → has_no_present us ≡ true)
+whole_tells : (v : Bool) (us : List Turn) (n : ℕ) → n < 4 → silences us ≡ n → (v ≡ false → has_shown us ≡ false) → (v ≡ true → has_shown us ≡ true) → (not v ≡ false → has_no_present us ≡ false)
+    → (not v ≡ true → has_no_present us ≡ true)
     → At (Reaches (if v then Told (Ok tt) else Told (Err faults.BadAnswer))) us
 whole_tells true us n few sum less more well ill = tells_there us n few sum (more refl) (well refl)
 whole_tells false us n few sum less more well ill = tells_bad us n few sum (less refl) (ill refl)

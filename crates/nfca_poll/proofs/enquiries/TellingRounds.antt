@@ -1,5 +1,6 @@
 -- What a call by rounds answers follows from what it heard.
-use Rattle.std.proofs.Common.{◌≡◌, ◌⊎◌, inl, inr, ◌≤◌, ℕ, ◌+◌, List, [], ◌∷◌, ◌++◌, length, filter, Bool, true, false, nat_lt, if◌then◌else◌, Option, Some, None, Result, Ok, Err, refl, sym, ◌∙◌, ap, subst, append_assoc, arith}
+use Rattle.std.proofs.Common.{◌≡◌, ◌⊎◌, inl, inr, ◌≤◌, ℕ, ◌+◌, List, [], ◌∷◌, ◌++◌, length, filter, Bool, true, false, nat_lt, if◌then◌else◌, Option, Some, None, Result, Ok, Err, refl, sym, ◌∙◌, ap}
+use Rattle.std.proofs.Common.{subst, append_assoc, arith}
 use Rattle.std.proofs.lemmas.List.{append-nil, length-append}
 use Rattle.std.proofs.lemmas.List.Elements.{filter-append}
 use Rattle.std.proofs.lemmas.List.Folds.{list_any-append}
@@ -18,7 +19,8 @@ use Rattle.nfca_poll.specs.Calls.{Slp, call_frame, is_slp}
 use Rattle.nfca_poll.specs.Enquiry.{Progress, Reaches, Loses, progress, answer_of, Enquires}
 use Rattle.nfca_poll.specs.Poll.{Seek, Calling, Asking, Selecting, Ended, Nobody, Disturbed, BadAnswer, Found, seek_step}
 use Rattle.nfca_poll.specs.Seeking.{resolution}
-use Rattle.nfca_poll.specs.Rounds.{Aim, Search, Begins, Seeks, Sends, Told, most_rounds, most_found, next_round, has_found, met_or_taken, sought, searching, search_lit, search_next, all_devices, device_of, finding, picking}
+use Rattle.nfca_poll.specs.Rounds.{Aim, Search, Begins, Seeks, Sends, Told, most_rounds, most_found, next_round, has_found, met_or_taken, sought, searching, search_lit, search_next, all_devices}
+use Rattle.nfca_poll.specs.Rounds.{device_of, finding, picking}
 use Rattle.nfca_poll.specs.ByHeard.{silences, presence_turns, has_wrong, sleeps, TellsFound, TellsPicked, turns_since}
 use Rattle.nfca_poll.proofs.enquiries.EnquiryWalks.{after}
 use Rattle.nfca_poll.proofs.enquiries.TurnWalks.{turns_hold}
@@ -89,7 +91,8 @@ module _ {X : Type 0} (aim : Aim X) (Ends : Result X PollFault → Type 0)
   taken_at n found p ts few None e = met_at n found p ts few (has_found found p.id)
 
   -- what a resolution has come to
-  sought_at : (n : ℕ) (found : List Picked) (s : Seek) (before own : List Turn) → length found ≤ sleeps (before ++ own) → resolving.At (Reaches s) own → At (Reaches (sought aim next_round n found s)) (before ++ own)
+  sought_at : (n : ℕ) (found : List Picked) (s : Seek) (before own : List Turn) → length found ≤ sleeps (before ++ own) → resolving.At (Reaches s) own
+      → At (Reaches (sought aim next_round n found s)) (before ++ own)
   sought_at n found (Calling k) before own few q = (few, record { before = before; own = own; split = refl; at = q })
   sought_at n found (Asking done known) before own few q = (few, record { before = before; own = own; split = refl; at = q })
   sought_at n found (Selecting done l) before own few q = (few, record { before = before; own = own; split = refl; at = q })

@@ -2,7 +2,8 @@
 use Rattle.std.proofs.Common.{◌≡◌, ℕ, suc, ◌+◌, ◌*◌, ◌≤◌, List, [], ◌∷◌, ◌++◌, length, drop, get_or, Bool, true, false, ◌==◌, ◌&&◌, nat_le, if◌then◌else◌, refl, sym, ◌∙◌, ap, arith}
 use Rattle.nfc_base.specs.Signal.{Signal}
 use Rattle.nfc_base.specs.Bits.{bits_of, bit_count, packed}
-use Rattle.nfca_poll.specs.Calls.{Reading, Calls, Other, Sens, All, Slp, Sdd, Sel, call_of, call_frame, sel_cmd, sel_par, all_known, is_short, is_slp, is_sdd, is_sel, is_sel_cmd, is_sdd_par, known_count, known_bits, cmd_level, named_level}
+use Rattle.nfca_poll.specs.Calls.{Reading, Calls, Other, Sens, All, Slp, Sdd, Sel, call_of, call_frame, sel_cmd, sel_par, all_known, is_short, is_slp, is_sdd, is_sel, is_sel_cmd, is_sdd_par}
+use Rattle.nfca_poll.specs.Calls.{known_count, known_bits, cmd_level, named_level}
 use Rattle.nfca_poll.proofs.identifiers.KnownPacks.{two_bytes, two_size}
 use Rattle.nfca_poll.proofs.identifiers.HeardBits.{bits_back, count_packed}
 
@@ -27,7 +28,8 @@ reads f n k rest b c l u z =
     let s1 : is_short f 0x26 ≡ false = short (f.tail == 7) (length f.bytes) (get_or f.bytes 0 0 == 0x26) (omega (arith, size)) in
     let s2 : is_short f 0x52 ≡ false = short (f.tail == 7) (length f.bytes) (get_or f.bytes 0 0 == 0x52) (omega (arith, size)) in
     let s3 : is_slp f ≡ false = slp (f.tail == 0) (length f.bytes == 2) (get_or f.bytes 0 0) (get_or f.bytes 1 0 == 0) (omega (arith, first, l)) in
-    let s4 : is_sdd f ≡ true = sdd (length f.bytes) (get_or f.bytes 0 0) (get_or f.bytes 1 0) (bit_count f) (omega (arith, size)) (sel_byte (get_or f.bytes 0 0) k first l u) (par_ok (get_or f.bytes 1 0) n second z) (c ∙ ap (λ t. 16 + t) (sym (par_count (get_or f.bytes 1 0) n second z))) in
+    let s4 : is_sdd f ≡ true = sdd (length f.bytes) (get_or f.bytes 0 0) (get_or f.bytes 1 0) (bit_count f) (omega (arith, size)) (sel_byte (get_or f.bytes 0 0) k first l u)
+    (par_ok (get_or f.bytes 1 0) n second z) (c ∙ ap (λ t. 16 + t) (sym (par_count (get_or f.bytes 1 0) n second z))) in
     let level : cmd_level (get_or f.bytes 0 0) ≡ k = omega (arith, first) in
     let rest_of : Reading = if is_sel f then Calls (Sel (cmd_level (get_or f.bytes 0 0)) (named_level f)) else Other in
     let D : Reading = Calls (Sdd (cmd_level (get_or f.bytes 0 0)) (known_bits f)) in

@@ -1,5 +1,6 @@
 -- Levels that fit, and what a device does that is asked.
-use Rattle.std.proofs.Common.{◌≡◌, ℕ, zero, suc, ◌+◌, ◌-◌, ◌<◌, ◌≤◌, List, [], ◌∷◌, ◌++◌, length, take, drop, get_or, Bool, true, false, ◌&&◌, nat_lt, nat_eq, if◌then◌else◌, refl, sym, ◌∙◌, ap, subst, arith, Option, Some, None, append_assoc}
+use Rattle.std.proofs.Common.{◌≡◌, ℕ, zero, suc, ◌+◌, ◌-◌, ◌<◌, ◌≤◌, List, [], ◌∷◌, ◌++◌, length, take, drop, get_or, Bool, true, false, ◌&&◌, nat_lt, nat_eq, if◌then◌else◌, refl, sym, ◌∙◌, ap, subst}
+use Rattle.std.proofs.Common.{arith, Option, Some, None, append_assoc}
 use Rattle.std.specs.Cmp.Lexicographic.{pointwise}
 use Rattle.nfc_base.specs.declared.frame.Tech.TheVariants.{A}
 use Rattle.nfc_base.specs.Signal.{Signal}
@@ -168,8 +169,11 @@ fits_flat [] p (l ∷ ls) h = (level_bits_of ls, refl)
 fits_flat (x ∷ done) p [] h = wrong h
 fits_flat (x ∷ done) p (l ∷ ls) h =
     let s : _ × _ = and_both (pointwise nat_eq x l) (fits done p ls) h in
-    let f : (r : List Bool) × (level_bits_of ls ≡ level_bits_of done ++ (bits_of (nth ls (length done)) ++ r)) = fits_flat done p ls s.1 in
-    (f.0, ap (λ t. bits_of l ++ t) f.1 ∙ ap (λ t. t ++ (level_bits_of done ++ (bits_of (nth ls (length done)) ++ f.0))) (ap bits_of (sym (pointwise_path x l s.0))) ∙ sym (append_assoc (bits_of x) (level_bits_of done) (bits_of (nth ls (length done)) ++ f.0)))
+    let f : (r : List Bool) × (level_bits_of ls ≡ level_bits_of done ++ (bits_of (nth ls (length done)) ++ r)) = fits_flat done p ls s.1 in (
+      f.0,
+      ap (λ t. bits_of l ++ t) f.1 ∙ ap (λ t. t ++ (level_bits_of done ++ (bits_of (nth ls (length done)) ++ f.0))) (ap bits_of (sym (pointwise_path x l s.0)))
+          ∙ sym (append_assoc (bits_of x) (level_bits_of done) (bits_of (nth ls (length done)) ++ f.0)),
+    )
 
 pub ahead_rest : (done : List (List ℕ)) (p : List Bool) (ms ls : List (List ℕ)) → fits done p ms ≡ true → fits done p ls ≡ true
     → length (bits_of (nth ms (length done))) ≡ length (bits_of (nth ls (length done))) → ahead (level_bits_of ms) (level_bits_of ls) ≡ true
@@ -179,7 +183,8 @@ ahead_rest done p ms ls f g l h =
     let b : (r : List Bool) × (level_bits_of ls ≡ level_bits_of done ++ (bits_of (nth ls (length done)) ++ r)) = fits_flat done p ls g in
     let e : ahead (level_bits_of done ++ (bits_of (nth ms (length done)) ++ a.0)) (level_bits_of done ++ (bits_of (nth ls (length done)) ++ b.0)) ≡ true =
     sym (ap (λ t. ahead t (level_bits_of ls)) a.1 ∙ ap (λ t. ahead (level_bits_of done ++ (bits_of (nth ms (length done)) ++ a.0)) t) b.1) ∙ h in
-    ahead_cut (bits_of (nth ms (length done))) (bits_of (nth ls (length done))) a.0 b.0 l (ahead_tail (level_bits_of done) (bits_of (nth ms (length done)) ++ a.0) (bits_of (nth ls (length done)) ++ b.0) e)
+    ahead_cut (bits_of (nth ms (length done))) (bits_of (nth ls (length done))) a.0 b.0 l (ahead_tail (level_bits_of done) (bits_of (nth ms (length done)) ++ a.0)
+    (bits_of (nth ls (length done)) ++ b.0) e)
 
 pub ahead_behind : (p x y : List Bool) → begins p x ≡ true → begins p y ≡ true → ahead x y ≡ true → ahead (drop (length p) x) (drop (length p) y) ≡ true
 ahead_behind p x y h k a =
@@ -229,7 +234,8 @@ sdd_says id k done known true v f g =
     ∙ ap (λ l. S (begins known (bits_of l)) l) (nth_is (levels id) (length done))
     ∙ ap (λ t. S t (nth (levels id) (length done))) (f refl) ∙ spread v
   where
-    spread : (w : Bool) → (if w then Some (of_bits A (drop (length known) (bits_of (nth (levels id) (length done))))) else None) ≡ framed (if w then Some (drop (length known) (bits_of (nth (levels id) (length done)))) else None)
+    spread : (w : Bool) → (if w then Some (of_bits A (drop (length known) (bits_of (nth (levels id) (length done))))) else None)
+        ≡ framed (if w then Some (drop (length known) (bits_of (nth (levels id) (length done)))) else None)
     spread true = refl
     spread false = refl
 sdd_says id k done known false v f g = ap (λ t. framed (if t then Some (drop (length known) (bits_of (nth (levels id) (length done)))) else None)) (sym (g refl))
@@ -238,7 +244,8 @@ asked_next_by : (done : List (List ℕ)) (pre known : List Bool) (id : List ℕ)
     → card_next (sdd_at done known) (card_at done pre (record { id = id; kind = k; front = f })) ≡ card_at done known (record { id = id; kind = k; front = f })
 asked_next_by done pre known id k Off b r = refl
 asked_next_by done pre known id k Idle b r =
-    sdd_next id k done known (fits done pre (levels id)) (fits done known (levels id)) (fits_is done pre known (levels id)) (λ h. fits_not done pre known (levels id) b h (fits done known (levels id)) refl)
+    sdd_next id k done known (fits done pre (levels id)) (fits done known (levels id)) (fits_is done pre known (levels id))
+    (λ h. fits_not done pre known (levels id) b h (fits done known (levels id)) refl)
 asked_next_by done pre known id k Sleep b r = refl
 asked_next_by done pre known id k (Ready j s) b r = wrong r
 asked_next_by done pre known id k (Active s) b r = wrong r
@@ -251,7 +258,8 @@ asked_says_by : (done : List (List ℕ)) (pre known : List Bool) (id : List ℕ)
     → card_says (sdd_at done known) (card_at done pre (record { id = id; kind = k; front = f })) ≡ framed (rest_at done known (record { id = id; kind = k; front = f }))
 asked_says_by done pre known id k Off b r = refl
 asked_says_by done pre known id k Idle b r =
-    sdd_says id k done known (fits done pre (levels id)) (fits done known (levels id)) (fits_is done pre known (levels id)) (λ h. fits_not done pre known (levels id) b h (fits done known (levels id)) refl)
+    sdd_says id k done known (fits done pre (levels id)) (fits done known (levels id)) (fits_is done pre known (levels id))
+    (λ h. fits_not done pre known (levels id) b h (fits done known (levels id)) refl)
 asked_says_by done pre known id k Sleep b r = refl
 asked_says_by done pre known id k (Ready j s) b r = wrong r
 asked_says_by done pre known id k (Active s) b r = wrong r
@@ -262,7 +270,8 @@ asked_says done pre known c b r = asked_says_by done pre known c.id c.kind c.fro
 
 -- SEL_REQ: a device whose level it is
 pub sel_next : (id : List ℕ) (k : Kind) (done : List (List ℕ)) (l : List ℕ) (t : Bool) → nth (levels id) (length done) ≡ l → nat_lt (length done + 1) (length (levels id)) ≡ t
-    → card_next (sel_at done l) (record { id = id; kind = k; front = Ready (length done + 1) false }) ≡ record { id = id; kind = k; front = if t then Ready (length done + 1 + 1) false else Active false }
+    → card_next (sel_at done l) (record { id = id; kind = k; front = Ready (length done + 1) false })
+    ≡ record { id = id; kind = k; front = if t then Ready (length done + 1 + 1) false else Active false }
 sel_next id k done l t e h =
     let n : ℕ = length done + 1 in
     let C : Front → Card = λ f. record { id = id; kind = k; front = f } in

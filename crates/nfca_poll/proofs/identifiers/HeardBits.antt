@@ -31,7 +31,8 @@ unpacked (a ∷ b ∷ c ∷ d ∷ []) = low_number (a ∷ b ∷ c ∷ d ∷ [])
 unpacked (a ∷ b ∷ c ∷ d ∷ e ∷ []) = low_number (a ∷ b ∷ c ∷ d ∷ e ∷ [])
 unpacked (a ∷ b ∷ c ∷ d ∷ e ∷ f ∷ []) = low_number (a ∷ b ∷ c ∷ d ∷ e ∷ f ∷ [])
 unpacked (a ∷ b ∷ c ∷ d ∷ e ∷ f ∷ g ∷ []) = low_number (a ∷ b ∷ c ∷ d ∷ e ∷ f ∷ g ∷ [])
-unpacked (a ∷ b ∷ c ∷ d ∷ e ∷ f ∷ g ∷ h ∷ x) = ap (λ t. take (length (a ∷ b ∷ c ∷ d ∷ e ∷ f ∷ g ∷ h ∷ x)) (t ++ bits_of (packed x))) (low_number (a ∷ b ∷ c ∷ d ∷ e ∷ f ∷ g ∷ h ∷ [])) ∙ ap (λ t. a ∷ b ∷ c ∷ d ∷ e ∷ f ∷ g ∷ h ∷ t) (unpacked x)
+unpacked (a ∷ b ∷ c ∷ d ∷ e ∷ f ∷ g ∷ h ∷ x) = ap (λ t. take (length (a ∷ b ∷ c ∷ d ∷ e ∷ f ∷ g ∷ h ∷ x)) (t ++ bits_of (packed x))) (low_number (a ∷ b ∷ c ∷ d ∷ e ∷ f ∷ g ∷ h ∷ []))
+    ∙ ap (λ t. a ∷ b ∷ c ∷ d ∷ e ∷ f ∷ g ∷ h ∷ t) (unpacked x)
 
 not_zero : (k : ℕ) → (k == 0) ≡ false → 0 < k
 not_zero k q = grind arith
@@ -44,13 +45,15 @@ eight_more n k r i e f = by_rest (n % 8 == 0) refl
     by_rest : (v : Bool) → (n % 8 == 0) ≡ v → (if r == 0 then 8 * suc k else 8 * (suc k - 1) + r) ≡ suc (suc (suc (suc (suc (suc (suc (suc n)))))))
     by_rest true q =
         let whole : 8 * k ≡ n = ap (λ v. if v then 8 * k else 8 * (k - 1) + n % 8) (sym q) ∙ i in
-        ap (λ t. if t == 0 then 8 * suc k else 8 * (suc k - 1) + t) e ∙ ap (λ v. if v then 8 * suc k else 8 * (suc k - 1) + n % 8) q ∙ (let z : 8 * suc k ≡ suc (suc (suc (suc (suc (suc (suc (suc n))))))) = omega (arith, whole) in z)
+        ap (λ t. if t == 0 then 8 * suc k else 8 * (suc k - 1) + t) e ∙ ap (λ v. if v then 8 * suc k else 8 * (suc k - 1) + n % 8) q
+        ∙ (let z : 8 * suc k ≡ suc (suc (suc (suc (suc (suc (suc (suc n))))))) = omega (arith, whole) in z)
     by_rest false q =
         let part : 8 * (k - 1) + n % 8 ≡ n = ap (λ v. if v then 8 * k else 8 * (k - 1) + n % 8) (sym q) ∙ i in
         let some : 0 < n % 8 = not_zero (n % 8) q in
         let any : 0 < n = omega (arith, some) in
         let more : 0 < k = f any in
-        ap (λ t. if t == 0 then 8 * suc k else 8 * (suc k - 1) + t) e ∙ ap (λ v. if v then 8 * suc k else 8 * (suc k - 1) + n % 8) q ∙ (let z : 8 * (suc k - 1) + n % 8 ≡ suc (suc (suc (suc (suc (suc (suc (suc n))))))) = omega (arith, part, more) in z)
+        ap (λ t. if t == 0 then 8 * suc k else 8 * (suc k - 1) + t) e ∙ ap (λ v. if v then 8 * suc k else 8 * (suc k - 1) + n % 8) q
+        ∙ (let z : 8 * (suc k - 1) + n % 8 ≡ suc (suc (suc (suc (suc (suc (suc (suc n))))))) = omega (arith, part, more) in z)
 
 pub count_packed : (x : List Bool) → bit_count (of_bits A x) ≡ length x
 unfolding packed
@@ -62,7 +65,8 @@ count_packed (a ∷ b ∷ c ∷ d ∷ []) = refl
 count_packed (a ∷ b ∷ c ∷ d ∷ e ∷ []) = refl
 count_packed (a ∷ b ∷ c ∷ d ∷ e ∷ f ∷ []) = refl
 count_packed (a ∷ b ∷ c ∷ d ∷ e ∷ f ∷ g ∷ []) = refl
-count_packed (a ∷ b ∷ c ∷ d ∷ e ∷ f ∷ g ∷ h ∷ x) = eight_more (length x) (length (packed x)) (suc (suc (suc (suc (suc (suc (suc (suc (length x)))))))) % 8) (count_packed x) (omega arith) (packed_any x)
+count_packed (a ∷ b ∷ c ∷ d ∷ e ∷ f ∷ g ∷ h ∷ x) = eight_more (length x) (length (packed x)) (suc (suc (suc (suc (suc (suc (suc (suc (length x)))))))) % 8) (count_packed x) (omega arith)
+    (packed_any x)
 
 pub bits_back : (x : List Bool) → bits (of_bits A x) ≡ x
 bits_back x = ap (λ t. take t (bits_of (packed x))) (count_packed x) ∙ unpacked x

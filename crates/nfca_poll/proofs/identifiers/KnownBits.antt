@@ -17,7 +17,8 @@ and_both : (a b : Bool) → a && b ≡ true → (a ≡ true) × (b ≡ true)
 and_both true b h = (refl, h)
 and_both false b h = wrong h
 
-sixteen : (bytes : List ℕ) (n : ℕ) → 2 ≤ length bytes → drop 16 (take (suc (suc (suc (suc (suc (suc (suc (suc (suc (suc (suc (suc (suc (suc (suc (suc n)))))))))))))))) (bits_of bytes)) ≡ take n (bits_of (drop 2 bytes))
+sixteen : (bytes : List ℕ) (n : ℕ) → 2 ≤ length bytes → drop 16 (take (suc (suc (suc (suc (suc (suc (suc (suc (suc (suc (suc (suc (suc (suc (suc (suc n)))))))))))))))) (bits_of bytes))
+    ≡ take n (bits_of (drop 2 bytes))
 unfolding bits_of
 sixteen [] n h = absurd (omega (arith, h))
 sixteen (a ∷ []) n h = absurd (omega (arith, h))
@@ -83,7 +84,8 @@ sdd_facts f h =
     par_few : (p : ℕ) → is_sdd_par p ≡ true → known_count p ≤ 39
     par_few p e = grind arith
 
-pub known_at : (f : Signal) (n : ℕ) → SddFacts f n → bit_count f ≤ 8 * length f.bytes → (known_bits f ≡ take n (bits_of (drop 2 f.bytes))) × (length (known_bits f) ≡ n) × (n ≤ length (bits_of (drop 2 f.bytes)))
+pub known_at : (f : Signal) (n : ℕ) → SddFacts f n → bit_count f ≤ 8 * length f.bytes → (known_bits f ≡ take n (bits_of (drop 2 f.bytes))) × (length (known_bits f) ≡ n)
+    × (n ≤ length (bits_of (drop 2 f.bytes)))
 known_at f n s w =
     let c : bit_count f ≡ 16 + n = s.count in
     let e : known_bits f ≡ take n (bits_of (drop 2 f.bytes)) = known_is f.bytes (bit_count f) n s.two c in

@@ -207,10 +207,13 @@ later_turn may w q v u _ n _ a k e on s d (unheard x) =
     let P : Seek → Type 0 = λ y. Mixed may w y u (n + 1) in
     let K : List Card → Type 0 = λ y. Pairs Keeps w y in
     subst P (sym s) ((subst K (sym x) k.kept, omega arith), (λ f i j. absurd cc))
-later_turn may w q v u _ n _ a k e on s d (damaged m g h) = let P : Seek → Type 0 = λ y. Mixed may w y u (n + 1) in subst P (sym d) ((kept_turn may (due q) (ready_polls (due q) a) w v u k.kept m, omega arith), (λ f i j. absurd cc))
-later_turn may w q v u _ n _ a k e on s d (lost m g h) = let P : Seek → Type 0 = λ y. Mixed may w y u (n + 1) in subst P (sym s) ((kept_turn may (due q) (ready_polls (due q) a) w v u k.kept m, omega arith), (λ f i j. absurd cc))
+later_turn may w q v u _ n _ a k e on s d (damaged m g h) = let P : Seek → Type 0 = λ y. Mixed may w y u (n + 1) in
+    subst P (sym d) ((kept_turn may (due q) (ready_polls (due q) a) w v u k.kept m, omega arith), (λ f i j. absurd cc))
+later_turn may w q v u _ n _ a k e on s d (lost m g h) = let P : Seek → Type 0 = λ y. Mixed may w y u (n + 1) in
+    subst P (sym s) ((kept_turn may (due q) (ready_polls (due q) a) w v u k.kept m, omega arith), (λ f i j. absurd cc))
 
-pub any_turn : (may : Bool) (w : List Card) (q : Seeking) (v u : List Card) (h : Heard) (n t : ℕ) → HaveOwnIdents w → Mixed may w (seek_of q) v n → TurnOf may (call_of (request_of q)) v u h t → Mixed may w (seek_step (seek_of q) h) u (n + t)
+pub any_turn : (may : Bool) (w : List Card) (q : Seeking) (v u : List Card) (h : Heard) (n t : ℕ) → HaveOwnIdents w → Mixed may w (seek_of q) v n → TurnOf may (call_of (request_of q)) v u h t
+    → Mixed may w (seek_step (seek_of q) h) u (n + t)
 any_turn may w (seeks.Calling k) v u h n t own c was = calling_turn may w k v u h n t own c was
 any_turn may w (seeks.Asking d known) v u h n t own k was =
     let done : List (List ℕ) = levels_of d in
@@ -275,12 +278,14 @@ module _ {L : Type 0} (m : Machine L) (identifier' : L → List ℕ) where
       let was = turn_of m ours may f tech now new h yields t.0 in
       let W : Signal → Type 0 = λ x. TurnOf may (call_of x) (cards ours now.listeners) (cards ours new.listeners) h (noise (events_of m now f)) in
       let N : ℕ → Type 0 = λ x. Mixed may w (seek_step (seek_of q) h) (cards ours new.listeners) x in
-      subst N (noise_so_far m identifier' old now new (seek_of q) f h r t.0) (any_turn may w q (cards ours now.listeners) (cards ours new.listeners) h n (noise (events_of m now f)) own k (subst W e was))
+      subst N (noise_so_far m identifier' old now new (seek_of q) f h r t.0) (any_turn may w q (cards ours now.listeners) (cards ours new.listeners) h n (noise (events_of m now f)) own k
+      (subst W e was))
 
   -- So far, whatever noise was met, this is known of the cards.
   abbrev pub Mixes : Air L → Air L → Seek → Type 0
   Mixes old now s =
-      (ours : AreOurs m identifier') → YieldsToCalls ours → HaveOwnIdents (cards ours old.listeners) → Mixed true (cards ours old.listeners) s (cards ours now.listeners) (noise (drop (length old.trace) now.trace))
+      (ours : AreOurs m identifier') → YieldsToCalls ours → HaveOwnIdents (cards ours old.listeners)
+      → Mixed true (cards ours old.listeners) s (cards ours now.listeners) (noise (drop (length old.trace) now.trace))
 
   pub mixes_start : (old : Air L) → Mixes old old (Calling 0)
   mixes_start old ours yields own = mixed_start true ours old
@@ -298,7 +303,8 @@ module _ {L : Type 0} (m : Machine L) (identifier' : L → List ℕ) where
       or_stays l (inl s) = inl s
       or_stays l (inr s) = inr (refl, s)
 
-  pub mixes_end : (old new : Air L) (s : Seek) (o : Outcome) (r : Result Picked PollFault) → Mixes old new s → s ≡ Ended o → r ≡ outcome o → (ours : AreOurs m identifier') → YieldsToCalls ours → PicksFromAny ours old r new
+  pub mixes_end : (old new : Air L) (s : Seek) (o : Outcome) (r : Result Picked PollFault) → Mixes old new s → s ≡ Ended o → r ≡ outcome o → (ours : AreOurs m identifier') → YieldsToCalls ours
+      → PicksFromAny ours old r new
   mixes_end old new s o r mixes e end ours yields own =
       let w : List Card = cards ours old.listeners in
       let n : ℕ = noise (drop (length old.trace) new.trace) in
@@ -307,7 +313,8 @@ module _ {L : Type 0} (m : Machine L) (identifier' : L → List ℕ) where
       let R : Result Picked PollFault → Type 0 = λ x. EndsFromAny w x (cards ours new.listeners) n in
       subst R (sym end) k.0
 
-  pub mixes_err : (old now new : Air L) (q : Seeking) (f : Signal) (fault : PollFault) → Mixes old now (seek_of q) → AskEnds m now f (Err fault) new → (ours : AreOurs m identifier') → YieldsToCalls ours
+  pub mixes_err : (old now new : Air L) (q : Seeking) (f : Signal) (fault : PollFault) → Mixes old now (seek_of q) → AskEnds m now f (Err fault) new → (ours : AreOurs m identifier')
+      → YieldsToCalls ours
       → PicksFromAny ours old (Err fault) new
   mixes_err old now new q f faults.Nobody k t ours yields own = absurd t
   mixes_err old now new q f faults.Disturbed k t ours yields own = absurd t

@@ -1,5 +1,6 @@
 -- A resolution over this project's listeners in any state, whatever noise it meets.
-use Rattle.std.proofs.Common.{◌≡◌, ◌≢◌, ◌⊎◌, ℕ, ◌+◌, ◌*◌, ◌<◌, ◌≤◌, List, [], ◌∷◌, ◌++◌, map, filter_map, Bool, true, false, nat_lt, nat_le, not, if◌then◌else◌, inl, inr, refl, sym, ◌∙◌, ap, subst, arith, None, Result, Ok}
+use Rattle.std.proofs.Common.{◌≡◌, ◌≢◌, ◌⊎◌, ℕ, ◌+◌, ◌*◌, ◌<◌, ◌≤◌, List, [], ◌∷◌, ◌++◌, map, filter_map, Bool, true, false, nat_lt, nat_le, not, if◌then◌else◌, inl, inr, refl, sym, ◌∙◌, ap, subst}
+use Rattle.std.proofs.Common.{arith, None, Result, Ok}
 use Rattle.nfc_base.specs.declared.event.Heard.{Heard}
 use Rattle.nfc_base.specs.declared.event.Heard.TheVariants.{Silent}
 use Rattle.nfc_base.specs.Signal.{Signal}
@@ -114,7 +115,8 @@ soon_unheard k n (Ready j false) h = omega (arith, h)
 soon_unheard k n (Active s) h = h
 
 -- an answer that was lost
-soon_lost : (may : Bool) (k n : ℕ) (kind : Kind) (id : List ℕ) (f : Front) (d : Card) → Moves may (Calls Sens) (record { id = id; kind = kind; front = f }) d → Soon k n f → Soon (k + 1) (n + 1) d.front
+soon_lost : (may : Bool) (k n : ℕ) (kind : Kind) (id : List ℕ) (f : Front) (d : Card) → Moves may (Calls Sens) (record { id = id; kind = kind; front = f }) d → Soon k n f
+    → Soon (k + 1) (n + 1) d.front
 soon_lost may k n kind id Off d m h = absurd h
 soon_lost may k n kind id Idle d (inl e) h = let S : Card → Type 0 = λ x. Soon (k + 1) (n + 1) x.front in subst S (sym e) (omega (arith, h))
 soon_lost may k n kind id Idle d (inr t) h = wrong t.1
@@ -125,7 +127,8 @@ soon_lost may k n kind id (Ready j false) d (inr t) h = wrong t.1
 soon_lost may k n kind id (Active s) d m h = absurd h
 
 -- nobody has answered
-soon_silent : (may : Bool) (k n : ℕ) (kind : Kind) (id : List ℕ) (f : Front) (d : Card) → card_says (Calls Sens) (record { id = id; kind = kind; front = f }) ≡ None → Moves may (Calls Sens) (record { id = id; kind = kind; front = f }) d
+soon_silent : (may : Bool) (k n : ℕ) (kind : Kind) (id : List ℕ) (f : Front) (d : Card) → card_says (Calls Sens) (record { id = id; kind = kind; front = f }) ≡ None
+    → Moves may (Calls Sens) (record { id = id; kind = kind; front = f }) d
     → Soon k n f → Soon (k + 1) n d.front
 soon_silent may k n kind id Off d q m h = absurd h
 soon_silent may k n kind id Idle d q m h = absurd cc
@@ -165,7 +168,8 @@ none_waited k n (c ∷ w) [] a b d = absurd d
 none_waited k n (c ∷ w) (x ∷ v) a b d = ((λ q. late k n x.front a b (d.0 q)), none_waited k n w v a b d.1)
 
 -- one silence more
-silence : (may : Bool) (w : List Card) (k : ℕ) (v : List Card) (n : ℕ) (ready : Bool) → Pairs Keeps w v → Pairs Stays w v → Pairs (Due (k + 1) n) w v → Pairs (SameTurn ready) w v → Mixed may w (seek_step (Calling k) Silent) v n
+silence : (may : Bool) (w : List Card) (k : ℕ) (v : List Card) (n : ℕ) (ready : Bool) → Pairs Keeps w v → Pairs Stays w v → Pairs (Due (k + 1) n) w v → Pairs (SameTurn ready) w v
+    → Mixed may w (seek_step (Calling k) Silent) v n
 silence may w k v n ready p s d a = by_count (nat_lt k 3) refl
   where
     at_least : (i j : ℕ) → nat_lt i j ≡ false → j ≤ i
@@ -215,7 +219,8 @@ quiet_called may (x ∷ v) [] m q = absurd m
 quiet_called may (x ∷ v) (y ∷ u) m q = (sens_quiet may x y m.0 q, quiet_called may v u m.1 q)
 
 -- those that were idle wake up, or go home again
-turns_by : (may : Bool) (id : List ℕ) (k : Kind) (f : Front) (y : Card) (ready : Bool) → Moves may (Calls Sens) (record { id = id; kind = k; front = f }) y → f ≡ (if ready then Ready 1 false else Idle) → y.front ≡ (if not ready then Ready 1 false else Idle)
+turns_by : (may : Bool) (id : List ℕ) (k : Kind) (f : Front) (y : Card) (ready : Bool) → Moves may (Calls Sens) (record { id = id; kind = k; front = f }) y
+    → f ≡ (if ready then Ready 1 false else Idle) → y.front ≡ (if not ready then Ready 1 false else Idle)
 turns_by may id k f y true (inl e) h = let C : Card → Front = λ c. c.front in ap C e ∙ ap (λ x. front_next (levels id) x (Calls Sens)) h
 turns_by may id k f y false (inl e) h = let C : Card → Front = λ c. c.front in ap C e ∙ ap (λ x. front_next (levels id) x (Calls Sens)) h
 turns_by may id k f y true (inr s) h = wrong (sym (ap is_active h) ∙ s.1)
@@ -263,7 +268,8 @@ in_order w u up false k t =
     w u (pairs_both Keeps (SameTurn false) w u k t) all
 
 -- presence was heard
-present : (may : Bool) (w v u : List Card) (g : Signal) (ready : Bool) → HaveOwnIdents w → Pairs Keeps w v → Pairs Stays w v → Pairs (SameTurn ready) w v → Pairs (Moves may (Calls Sens)) v u → Has g (filter_map (card_says (Calls Sens)) v) → Behind may w (Asking [] []) u
+present : (may : Bool) (w v u : List Card) (g : Signal) (ready : Bool) → HaveOwnIdents w → Pairs Keeps w v → Pairs Stays w v → Pairs (SameTurn ready) w v → Pairs (Moves may (Calls Sens)) v u
+    → Has g (filter_map (card_says (Calls Sens)) v) → Behind may w (Asking [] []) u
 present may w v u g ready own k s a m h =
     let kept : Pairs Keeps w u = kept_turn may (Calls Sens) refl w v u k m in
     let up : Woken u = woken may v u g (each_kept IsIdent w v k own.idents) (each_kept IsIdent w u kept own.idents) (distinct_kept w u kept own.distinct) m h in
@@ -281,7 +287,8 @@ present may w v u g ready own k s a m h =
       twins = up.twins;
     }
 
-pub calling_turn : (may : Bool) (w : List Card) (k : ℕ) (v u : List Card) (h : Heard) (n t : ℕ) → HaveOwnIdents w → CallsInVain w k v n → TurnOf may (Calls Sens) v u h t → Mixed may w (seek_step (Calling k) h) u (n + t)
+pub calling_turn : (may : Bool) (w : List Card) (k : ℕ) (v u : List Card) (h : Heard) (n t : ℕ) → HaveOwnIdents w → CallsInVain w k v n → TurnOf may (Calls Sens) v u h t
+    → Mixed may w (seek_step (Calling k) h) u (n + t)
 calling_turn may w k v u _ n _ own c (passed m) = by_answers (filter_map (card_says (Calls Sens)) v) refl
   where
     by_answers : (xs : List Signal) → filter_map (card_says (Calls Sens)) v ≡ xs → Mixed may w (seek_step (Calling k) (hears (Calls Sens) v)) u (n + 0)
@@ -290,7 +297,8 @@ calling_turn may w k v u _ n _ own c (passed m) = by_answers (filter_map (card_s
         let N : ℕ → Type 0 = λ x. Mixed may w (seek_step (Calling k) Silent) u x in
         subst P (sym e)
         (subst N (let q : n ≡ n + 0 = omega arith in q)
-        (silence may w k u n (not c.ready) (kept_turn may (Calls Sens) refl w v u c.kept m) (stay_called may w v u c.stay m) (due_silent may k n w v u (none_in (card_says (Calls Sens)) v e) c.due m) (turn_called may c.ready w v u c.turn m)))
+        (silence may w k u n (not c.ready) (kept_turn may (Calls Sens) refl w v u c.kept m) (stay_called may w v u c.stay m) (due_silent may k n w v u (none_in (card_says (Calls Sens)) v e) c.due m)
+        (turn_called may c.ready w v u c.turn m)))
     by_answers (g ∷ gs) e =
         let P : List Signal → Type 0 = λ xs. Mixed may w (seek_step (Calling k) (heard_of (joint xs))) u (n + 0) in
         let S : Seek → Type 0 = λ s. Mixed may w s u (n + 0) in
@@ -300,4 +308,5 @@ calling_turn may w k v u _ n _ own c (unheard e) =
     let P : List Card → Type 0 = λ x. Mixed may w (seek_step (Calling k) Silent) x (n + 1) in
     subst P (sym e) (silence may w k v (n + 1) c.ready c.kept c.stay (due_unheard k n w v c.due) c.turn)
 calling_turn may w k v u _ n _ own c (damaged m g h) = present may w v u g c.ready own c.kept c.stay c.turn m h
-calling_turn may w k v u _ n _ own c (lost m g h) = silence may w k u (n + 1) (not c.ready) (kept_turn may (Calls Sens) refl w v u c.kept m) (stay_called may w v u c.stay m) (due_lost may k n w v u c.due m) (turn_called may c.ready w v u c.turn m)
+calling_turn may w k v u _ n _ own c (lost m g h) = silence may w k u (n + 1) (not c.ready) (kept_turn may (Calls Sens) refl w v u c.kept m) (stay_called may w v u c.stay m)
+    (due_lost may k n w v u c.due m) (turn_called may c.ready w v u c.turn m)

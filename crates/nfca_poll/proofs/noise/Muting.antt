@@ -36,7 +36,8 @@ mute_did (Hands payload) old new reply d = (d.1.0, d.3 ∙ ap Some d.1.1)
 module _ {L : Type 0} (m : Machine L) where
   meets_muted : (f : Signal) (l : L) (far far' : Mute) (answer : Option Signal) (l' : L) (v : Bool) → hears m l f ≡ v
       → Step restarts_mute steps_mute (if v then m.handed l f else Untouched) (λ reply. if v then m.answer l f reply else None) (λ reply. if v then m.after l f reply else l) far answer l' far'
-      → Step restarts_mute steps_mute (if v then Untouched else Untouched) (λ reply. if v then m.answer l f (mute_reply (m.handed l f)) else None) (λ reply. if v then m.after l f (mute_reply (m.handed l f)) else l) far answer l' far'
+      → Step restarts_mute steps_mute (if v then Untouched else Untouched) (λ reply. if v then m.answer l f (mute_reply (m.handed l f)) else None)
+      (λ reply. if v then m.after l f (mute_reply (m.handed l f)) else l) far answer l' far'
   meets_muted f l far far' answer l' true e s =
       let d : (far' ≡ far) × (s.reply ≡ mute_reply (m.handed l f)) = mute_did (m.handed l f) far far' s.reply s.far in
       record { reply = None; far = (d.0, refl); says = s.says ∙ ap (m.answer l f) d.1; left = s.left ∙ ap (m.after l f) d.1 }

@@ -75,7 +75,8 @@ calling_turn w n v _ _ _ s k unheard = silent_on w n v k
 calling_turn w n v _ _ _ s k (damaged g h) = let P : List Signal → Type 0 = λ t. Has g t in absurd (subst P (say_none w v s k) h)
 calling_turn w n v _ _ _ s k (lost g h) = let P : List Signal → Type 0 = λ t. Has g t in absurd (subst P (say_none w v s k) h)
 
-waiting_turn : (w : List Card) (q : Seeking) (v v' : List Card) (h : Heard) (t : ℕ) → Each Sleeps w → Waits w (seek_of q) v → TurnWas (call_of (request_of q)) v v' h t → Waits w (seek_step (seek_of q) h) v'
+waiting_turn : (w : List Card) (q : Seeking) (v v' : List Card) (h : Heard) (t : ℕ) → Each Sleeps w → Waits w (seek_of q) v → TurnWas (call_of (request_of q)) v v' h t
+    → Waits w (seek_step (seek_of q) h) v'
 waiting_turn w (seeks.Calling n) v v' h t s k was = calling_turn w n v v' h t s k was
 waiting_turn w (seeks.Asking d known) v v' h t s k was = absurd k
 waiting_turn w (seeks.Selecting d l) v v' h t s k was = absurd k
@@ -95,7 +96,8 @@ module _ {L : Type 0} (m : Machine L) (identifier' : L → List ℕ) where
   pub sleepers_start : (old : Air L) → Sleepers old old (Calling 0)
   sleepers_start old ours s = refl
 
-  pub sleepers_turn : (old now new : Air L) (q : Seeking) (f : Signal) (h : Heard) → Sleepers old now (seek_of q) → f ≡ request_of q → AskEnds m now f (Ok h) new → Sleepers old new (seek_step (seek_of q) h)
+  pub sleepers_turn : (old now new : Air L) (q : Seeking) (f : Signal) (h : Heard) → Sleepers old now (seek_of q) → f ≡ request_of q → AskEnds m now f (Ok h) new
+      → Sleepers old new (seek_step (seek_of q) h)
   sleepers_turn old now new q f h waits e t ours s =
       let w : List Card = cards ours old.listeners in
       let k : Waits w (seek_of q) (cards ours now.listeners) = waits ours s in
@@ -104,7 +106,8 @@ module _ {L : Type 0} (m : Machine L) (identifier' : L → List ℕ) where
       let W : Signal → Type 0 = λ x. TurnWas (call_of x) (cards ours now.listeners) (cards ours new.listeners) h (noise (events_of m now f)) in
       waiting_turn w q (cards ours now.listeners) (cards ours new.listeners) h (noise (events_of m now f)) s k (subst W e was)
 
-  pub sleepers_end : (old new : Air L) (s : Seek) (o : Outcome) (r : Result Picked PollFault) → Sleepers old new s → s ≡ Ended o → r ≡ outcome o → (ours : AreOurs m identifier') → FindsNobody ours old r new
+  pub sleepers_end : (old new : Air L) (s : Seek) (o : Outcome) (r : Result Picked PollFault) → Sleepers old new s → s ≡ Ended o → r ≡ outcome o → (ours : AreOurs m identifier')
+      → FindsNobody ours old r new
   sleepers_end old new s o r waits e end ours sl =
       let P : Seek → Type 0 = λ x. Waits (cards ours old.listeners) x (cards ours new.listeners) in
       let k : (o ≡ poll.Nobody) × (cards ours new.listeners ≡ cards ours old.listeners) = subst P e (waits ours sl) in

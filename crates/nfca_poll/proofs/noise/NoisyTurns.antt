@@ -102,7 +102,8 @@ module _ {L : Type 0} (m : Machine L) where
       subst (P h) (let q : 1 ≡ 1 + 0 = omega arith in q) (subst Q (sym (heard_in h _ k)) unheard)
   by_fates w f Break y h k = absurd cc
 
-  pub world_was : (old new : Air L) (f : Signal) (h : Heard) → TurnsTo (mute_air m) (moment old) (moment new) f (Some h) → WorldWas m (moment old).world f (moment new).world h (noise (events_of m old f))
+  pub world_was : (old new : Air L) (f : Signal) (h : Heard) → TurnsTo (mute_air m) (moment old) (moment new) f (Some h)
+      → WorldWas m (moment old).world f (moment new).world h (noise (events_of m old f))
   world_was old new f h t =
       let M : Moment (World L) → World L = λ x. x.world in
       let P : World L → Type 0 = λ w. WorldWas m (moment old).world f w h (noise (events_of m old f)) in

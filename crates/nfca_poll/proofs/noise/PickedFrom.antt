@@ -99,7 +99,8 @@ found_levels a b k l e = cc
 found_kind : (a b : List (List ℕ)) (k l : Kind) → ◌≡◌ {A = Outcome} (Found a k) (Found b l) → k ≡ l
 found_kind a b k l e = cc
 
-cards_map : (idle : Bool) (P : Card → Type 0) (before : List Card) (c : Card) (behind : List Card) → Each P (map (cast idle) before ++ cast idle c ∷ map (cast idle) behind) → Each (λ d. P (cast idle d)) (before ++ c ∷ behind)
+cards_map : (idle : Bool) (P : Card → Type 0) (before : List Card) (c : Card) (behind : List Card) → Each P (map (cast idle) before ++ cast idle c ∷ map (cast idle) behind)
+    → Each (λ d. P (cast idle d)) (before ++ c ∷ behind)
 cards_map idle P [] c behind e = (e.0, each_unmapped (cast idle) P behind e.1)
 cards_map idle P (x ∷ xs) c behind e = (e.0, cards_map idle P xs c behind e.1)
 

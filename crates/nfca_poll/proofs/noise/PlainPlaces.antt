@@ -68,7 +68,8 @@ rests_so Sleep r = (refl, refl)
 rests_so (Ready k starred) r = absurd cc
 rests_so (Active starred) r = absurd cc
 
-module _ {U : Type 0} {m : UpperMachine U} {store : U → List ℕ} {commands : U → TagState → Signal → TagStep} {is_open : U → Bool} {attributes : Signal → Bool} (laws : IsUpper m store commands is_open attributes) where
+module _ {U : Type 0} {m : UpperMachine U} {store : U → List ℕ} {commands : U → TagState → Signal → TagStep} {is_open : U → Bool} {attributes : Signal → Bool}
+    (laws : IsUpper m store commands is_open attributes) where
   abbrev shows : List (Fronted U) → List Card
   shows ls = cards (fronts_are_ours m) ls
 

@@ -27,7 +27,8 @@ use Rattle.nfca_poll.proofs.noise.ThroughNoise.{is_calling, asking_on, selecting
 use Rattle.nfca_poll.proofs.quiet.Causes as causes
 use Rattle.nfca_poll.proofs.quiet.Causes.{Leads, leads}
 use Rattle.nfca_poll.proofs.quiet.RoundParts.{noisy_count}
-use Rattle.nfca_poll.proofs.noise.Standing.{Stands, cast, Shades, called, third_call, first_shades, second_shades, first_answers, second_answers, third_answers, cast_cards, cast_distinct, sdd_unmoved, sel_unmoved, shades_next, shades_say}
+use Rattle.nfca_poll.proofs.noise.Standing.{Stands, cast, Shades, called, third_call, first_shades, second_shades, first_answers, second_answers, third_answers, cast_cards, cast_distinct, sdd_unmoved}
+use Rattle.nfca_poll.proofs.noise.Standing.{sel_unmoved, shades_next, shades_say}
 
 -- One of a group is picked from: m is the first of it.
 pub record Plays (start : List Card) (s : Seek) (v : List Card) : Type 0 where
@@ -155,7 +156,8 @@ module _ (start : List Card) (stand : Each Stands start) (apart : AreDistinct st
 
   -- a call in one stage: the group is heard, or it is silent, or it isn't asked, or it isn't heard
   step_at : (idle : Bool) (k : ℕ) (v v' : List Card) (h : Heard) (t : ℕ) (ts ts' : List Turn) (n : ℕ) → Group idle v → length ts' ≡ k + 1 → k ≤ 3
-      → (Each Sleeps (map (cast idle) start) → Stage start (k + 1) (noisy_count ts) (map called v)) → Stage start (k + 1) (noisy_count ts + 1) v → Stage start (k + 1) (noisy_count ts + 1) (map called v)
+      → (Each Sleeps (map (cast idle) start) → Stage start (k + 1) (noisy_count ts) (map called v)) → Stage start (k + 1) (noisy_count ts + 1) v
+      → Stage start (k + 1) (noisy_count ts + 1) (map called v)
       → noisy_count ts' ≡ noisy_count ts + t → TurnWas (Calls Sens) v v' h t → SoughtFrom start (seek_step (Calling k) h) v' ts' (n + t)
   step_at idle k v _ _ _ ts ts' n g count few quiet miss lose more passed = by_group (group_answers idle v g)
     where
@@ -235,7 +237,8 @@ module _ (start : List Card) (stand : Each Stands start) (apart : AreDistinct st
   pub sdd_step : (done : List (List ℕ)) (known : List Bool) (v v' : List Card) (h : Heard) (t : ℕ) (ts : List Turn) (n : ℕ) → Plays start (Asking done known) v
       → TurnWas (sdd_at done known) v v' h t → SoughtFrom start (seek_step (Asking done known) h) v' ts (n + t)
   sdd_step done known v _ _ _ ts n p passed =
-      plays_on start (seek_step (Asking done known) (hears (sdd_at done known) v)) (map (card_next (sdd_at done known)) v) ts (n + 0) (asking_on done known (hears (sdd_at done known) v)) (asking_on_parts done known v p)
+      plays_on start (seek_step (Asking done known) (hears (sdd_at done known) v)) (map (card_next (sdd_at done known)) v) ts (n + 0) (asking_on done known (hears (sdd_at done known) v))
+      (asking_on_parts done known v p)
   sdd_step done known v _ _ _ ts n p unheard = disturbed (Ended Disturbed) v ts n refl
   sdd_step done known v _ _ _ ts n p (damaged x h) = disturbed (Ended Disturbed) (map (card_next (sdd_at done known)) v) ts n refl
   sdd_step done known v _ _ _ ts n p (lost x h) = disturbed (Ended Disturbed) (map (card_next (sdd_at done known)) v) ts n refl
@@ -262,7 +265,8 @@ module _ (start : List Card) (stand : Each Stands start) (apart : AreDistinct st
   pub sel_step : (done : List (List ℕ)) (l : List ℕ) (v v' : List Card) (h : Heard) (t : ℕ) (ts : List Turn) (n : ℕ) → Plays start (Selecting done l) v
       → TurnWas (sel_at done l) v v' h t → SoughtFrom start (seek_step (Selecting done l) h) v' ts (n + t)
   sel_step done l v _ _ _ ts n p passed =
-      plays_on start (seek_step (Selecting done l) (hears (sel_at done l) v)) (map (card_next (sel_at done l)) v) ts (n + 0) (selecting_on done l (hears (sel_at done l) v)) (selecting_on_parts done l v p)
+      plays_on start (seek_step (Selecting done l) (hears (sel_at done l) v)) (map (card_next (sel_at done l)) v) ts (n + 0) (selecting_on done l (hears (sel_at done l) v))
+      (selecting_on_parts done l v p)
   sel_step done l v _ _ _ ts n p unheard = disturbed (Ended Disturbed) v ts n refl
   sel_step done l v _ _ _ ts n p (damaged x h) = disturbed (Ended Disturbed) (map (card_next (sel_at done l)) v) ts n refl
   sel_step done l v _ _ _ ts n p (lost x h) = disturbed (Ended Disturbed) (map (card_next (sel_at done l)) v) ts n refl
@@ -271,7 +275,8 @@ module _ (start : List Card) (stand : Each Stands start) (apart : AreDistinct st
 played_ident : (start : List Card) (s : Seek) (v : List Card) (p : Plays start s v) → IsIdent p.m.id
 played_ident start s v p = (each_has IsCard p.m (p.a ++ p.m ∷ p.b) p.first.cards (has_middle p.m p.a p.b)).0
 
-pub sdd_is_read : (start : List Card) (done : List (List ℕ)) (known : List Bool) (v : List Card) → Plays start (Asking done known) v → call_of (call_frame (Sdd (length done + 1) known)) ≡ sdd_at done known
+pub sdd_is_read : (start : List Card) (done : List (List ℕ)) (known : List Bool) (v : List Card) → Plays start (Asking done known) v
+    → call_of (call_frame (Sdd (length done + 1) known)) ≡ sdd_at done known
 sdd_is_read start done known v p =
     let ls : IsLevels (levels p.m.id) = levels_are p.m.id (played_ident start (Asking done known) v p) in
     let few : length done < length (levels p.m.id) = fits_in done known (levels p.m.id) p.seeks.3 in

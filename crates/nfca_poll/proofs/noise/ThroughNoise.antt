@@ -1,5 +1,6 @@
 -- A resolution over this project's listeners, whatever noise it meets.
-use Rattle.std.proofs.Common.{◌≡◌, ◌⊎◌, ℕ, ◌+◌, ◌*◌, ◌<◌, ◌≤◌, List, [], ◌∷◌, ◌++◌, length, drop, map, filter_map, get_or, Bool, true, false, ◌&&◌, nat_lt, nat_le, ◌==◌, if◌then◌else◌, inl, inr, refl, sym, ◌∙◌, ap, subst, append_assoc, arith, Some, None, Result, Ok, Err}
+use Rattle.std.proofs.Common.{◌≡◌, ◌⊎◌, ℕ, ◌+◌, ◌*◌, ◌<◌, ◌≤◌, List, [], ◌∷◌, ◌++◌, length, drop, map, filter_map, get_or, Bool, true, false, ◌&&◌, nat_lt, nat_le, ◌==◌, if◌then◌else◌, inl, inr, refl}
+use Rattle.std.proofs.Common.{sym, ◌∙◌, ap, subst, append_assoc, arith, Some, None, Result, Ok, Err}
 use Rattle.nfc_base.specs.declared.frame.Tech.TheVariants.{A}
 use Rattle.nfc_base.specs.declared.event.Event.{Event}
 use Rattle.nfc_base.specs.declared.event.Heard.{Heard}
@@ -21,7 +22,8 @@ use Rattle.nfca_poll.specs.Ident.{IsIdent}
 use Rattle.nfca_poll.specs.Levels.{levels, bcc}
 use Rattle.nfca_poll.specs.Calls.{Reading, Calls, Sens, call_of}
 use Rattle.nfca_poll.specs.Front.{Front, Off, Idle, Sleep, Ready, Active, sens_res, is_active}
-use Rattle.nfca_poll.specs.Poll.{Seek, Calling, Asking, Selecting, Ended, Outcome, Nobody, Disturbed, BadAnswer, Found, seek_step, selected, goes_on, kind_of, has_bit, is_one_byte, level_bits, collision_bits}
+use Rattle.nfca_poll.specs.Poll.{Seek, Calling, Asking, Selecting, Ended, Outcome, Nobody, Disturbed, BadAnswer, Found, seek_step, selected, goes_on, kind_of, has_bit, is_one_byte, level_bits}
+use Rattle.nfca_poll.specs.Poll.{collision_bits}
 use Rattle.nfca_poll.specs.Muted.{mute_air, AskEnds}
 use Rattle.nfca_poll.specs.Seeking.{resolution, seek_of, request_of, outcome, levels_of}
 use Rattle.nfca_poll.specs.Crowd.{Card, Each, with_front, is_rest, AreOurs, cards}
@@ -90,10 +92,13 @@ seeks_noisy a m b (Ended o) v n h q = inl q
 pub presence : (a : List Card) (m : Card) (b : List Card) (k : ℕ) → IsFirst a m b → seek_step (Calling k) (hears (Calls Sens) (a ++ m ∷ b)) ≡ Asking [] []
 presence a m b k F =
     let W : List Card = a ++ m ∷ b in
-    heard_some (sens_res (length (levels m.id))) (filter_map (card_says (Calls Sens)) W) k (said_has (card_says (Calls Sens)) m (sens_res (length (levels m.id))) W (has_middle m a b) (calls_idle m F.idle))
+    heard_some (sens_res (length (levels m.id))) (filter_map (card_says (Calls Sens)) W) k (said_has (card_says (Calls Sens)) m (sens_res (length (levels m.id))) W (has_middle m a b)
+    (calls_idle m F.idle))
 
 wakes : (a : List Card) (m : Card) (b : List Card) → IsFirst a m b → map (card_next (Calls Sens)) (a ++ m ∷ b) ≡ map (card_at [] []) (a ++ m ∷ b)
-wakes a m b F = map_same (card_next (Calls Sens)) (card_at [] []) (a ++ m ∷ b) (each_map IsCard (λ c. card_next (Calls Sens) c ≡ card_at [] [] c) (λ c h. woken_by c.id c.kind c.front (some_levels c.id h.0) h.1) (a ++ m ∷ b) F.cards)
+wakes a m b F =
+    map_same (card_next (Calls Sens)) (card_at [] []) (a ++ m ∷ b) (each_map IsCard (λ c. card_next (Calls Sens) c ≡ card_at [] [] c) (λ c h. woken_by c.id c.kind c.front (some_levels c.id h.0) h.1)
+    (a ++ m ∷ b) F.cards)
 
 pub asked_first : (a : List Card) (m : Card) (b : List Card) → IsFirst a m b → Seeks a m b (Asking [] []) (map (card_at [] []) (a ++ m ∷ b))
 asked_first a m b F = ([], refl, refl, has_levels (levels m.id) (some_levels m.id (each_has IsCard m (a ++ m ∷ b) F.cards (has_middle m a b)).0), omega arith)
@@ -169,7 +174,8 @@ calls_home a m b k v _ _ n _ F e l (damaged g h) =
     subst R (sym (ap (map (card_next (Calls Sens))) e ∙ wakes a m b F)) (asked_first a m b F)
 calls_home a m b k v _ _ n _ F e l (lost g h) = silent_ready a m b k (map (card_next (Calls Sens)) v) (n + 1) (ap (map (card_next (Calls Sens))) e ∙ wakes a m b F) (omega (arith, l))
 
-calls_ready : (a : List Card) (m : Card) (b : List Card) (k : ℕ) (v w : List Card) (h : Heard) (n t : ℕ) → IsFirst a m b → v ≡ map (card_at [] []) (a ++ m ∷ b) → k + 1 ≤ 2 * n → TurnWas (Calls Sens) v w h t
+calls_ready : (a : List Card) (m : Card) (b : List Card) (k : ℕ) (v w : List Card) (h : Heard) (n t : ℕ) → IsFirst a m b → v ≡ map (card_at [] []) (a ++ m ∷ b) → k + 1 ≤ 2 * n
+    → TurnWas (Calls Sens) v w h t
     → Noisy a m b (seek_step (Calling k) h) w (n + t)
 calls_ready a m b k v _ _ n _ F e l passed =
     let silent : hears (Calls Sens) v ≡ Silent = ap (λ t. heard_of (joint t)) (ap (filter_map (card_says (Calls Sens))) e ∙ say_none a m b F) in
@@ -203,7 +209,8 @@ noisy_inactive : (a : List Card) (m : Card) (b : List Card) (q : Seeking) (v : L
 noisy_inactive a m b (seeks.Calling k) v n F (inl s) = none_active a m b (seeks.Calling k) v F s.0
 noisy_inactive a m b (seeks.Calling k) v n F (inr s) =
     let P : List Card → Type 0 = λ w. Each (λ x. is_active x.front ≡ false) w in
-    subst P (sym s.0) (each_mapped (card_at [] []) (λ x. is_active x.front ≡ false) (a ++ m ∷ b) (each_map IsCard (λ x. is_active (card_at [] [] x).front ≡ false) (λ x i. at_inactive [] [] x i.1) (a ++ m ∷ b) F.cards))
+    subst P (sym s.0) (each_mapped (card_at [] []) (λ x. is_active x.front ≡ false) (a ++ m ∷ b)
+    (each_map IsCard (λ x. is_active (card_at [] [] x).front ≡ false) (λ x i. at_inactive [] [] x i.1) (a ++ m ∷ b) F.cards))
 noisy_inactive a m b (seeks.Asking d known) v n F s = none_active a m b (seeks.Asking d known) v F s
 noisy_inactive a m b (seeks.Selecting d l) v n F s = none_active a m b (seeks.Selecting d l) v F s
 
@@ -248,7 +255,8 @@ module _ {L : Type 0} (m : Machine L) (identifier' : L → List ℕ) where
   ends a c b o v n i (inr (inl d)) = let P : Outcome → Type 0 = λ x. EndsThroughNoise a c b (outcome x) v n in subst P (sym d.0) d.1
   ends a c b o v n i (inr (inr z)) = let P : Outcome → Type 0 = λ x. EndsThroughNoise a c b (outcome x) v n in subst P (sym z.0) z.1
 
-  pub holds_end : (old new : Air L) (s : Seek) (o : Outcome) (r : Result Picked PollFault) → Holds old new s → s ≡ Ended o → r ≡ outcome o → (ours : AreOurs m identifier') → PicksThroughNoise ours old r new
+  pub holds_end : (old new : Air L) (s : Seek) (o : Outcome) (r : Result Picked PollFault) → Holds old new s → s ≡ Ended o → r ≡ outcome o → (ours : AreOurs m identifier')
+      → PicksThroughNoise ours old r new
   holds_end old new s o r holds e end ours a c b start F =
       let n : ℕ = noise (drop (length old.trace) new.trace) in
       let P : Seek → Type 0 = λ x. Noisy a c b x (cards ours new.listeners) n in

@@ -91,7 +91,8 @@ module _ {L : Type 0} (m : Machine L) (identifier' : L → List ℕ) where
             (each_map (λ l. m.tech l ≡ A → unlinked l ≡ true) (YieldsAt ours false f) (λ l a x i. inl ((leaves l f c.0 x (a x) reads).0 i)) now.listeners k.0) r e t,
       )
 
-  pub frees_end : (old new : Air L) (s : Seek) (o : Outcome) (r : Result Picked PollFault) → Frees old new s → s ≡ Ended o → r ≡ outcome o → (ours : AreOurs m identifier') (unlinked : L → Bool) → LeavesAtCalls ours unlinked
+  pub frees_end : (old new : Air L) (s : Seek) (o : Outcome) (r : Result Picked PollFault) → Frees old new s → s ≡ Ended o → r ≡ outcome o → (ours : AreOurs m identifier') (unlinked : L → Bool)
+      → LeavesAtCalls ours unlinked
       → PicksAlone ours unlinked old r new
   frees_end old new s o r frees e end ours unlinked leaves own u =
       let w : List Card = cards ours old.listeners in
@@ -101,7 +102,8 @@ module _ {L : Type 0} (m : Machine L) (identifier' : L → List ℕ) where
       let a : EndsFromAny w (outcome o) (cards ours new.listeners) n × (false ≡ false → IsAlone (outcome o) (cards ours new.listeners)) = subst P e k.1 in
       (inr k.0, (λ p i. a.1 refl p (sym end ∙ i)))
 
-  pub frees_err : (old now new : Air L) (q : Seeking) (f : Signal) (fault : PollFault) → Frees old now (seek_of q) → AskEnds m now f (Err fault) new → (ours : AreOurs m identifier') (unlinked : L → Bool) → LeavesAtCalls ours unlinked
+  pub frees_err : (old now new : Air L) (q : Seeking) (f : Signal) (fault : PollFault) → Frees old now (seek_of q) → AskEnds m now f (Err fault) new
+      → (ours : AreOurs m identifier') (unlinked : L → Bool) → LeavesAtCalls ours unlinked
       → PicksAlone ours unlinked old (Err fault) new
   frees_err old now new q f faults.Nobody k t ours unlinked leaves own u = absurd t
   frees_err old now new q f faults.Disturbed k t ours unlinked leaves own u = absurd t

@@ -1,5 +1,6 @@
 -- A resolution without noise picks the first in crowd order.
-use Rattle.std.proofs.Common.{◌≡◌, ℕ, ◌+◌, ◌<◌, ◌≤◌, List, [], ◌∷◌, ◌++◌, length, map, filter_map, take, drop, get_or, Bool, true, false, ◌&&◌, nat_le, ◌==◌, if◌then◌else◌, inl, inr, refl, sym, ◌∙◌, ap, subst, arith, Option, Some, None, append_assoc}
+use Rattle.std.proofs.Common.{◌≡◌, ℕ, ◌+◌, ◌<◌, ◌≤◌, List, [], ◌∷◌, ◌++◌, length, map, filter_map, take, drop, get_or, Bool, true, false, ◌&&◌, nat_le, ◌==◌, if◌then◌else◌, inl, inr, refl, sym, ◌∙◌}
+use Rattle.std.proofs.Common.{ap, subst, arith, Option, Some, None, append_assoc}
 use Rattle.std.specs.List.{cons_option}
 use Rattle.std.proofs.lemmas.List.{length-append, append_cancel_left, length-take-le}
 use Rattle.nfc_base.specs.declared.frame.Tech.TheVariants.{A}
@@ -22,7 +23,8 @@ use Rattle.nfca_poll.proofs.quiet.Eaches.{each_map, each_with, each_has, has_mid
 use Rattle.nfca_poll.proofs.identifiers.HeardBits.{bits_back, heard_of, heard_bits, joint_bits}
 use Rattle.nfca_poll.proofs.quiet.OneLevel.{level_checks}
 use Rattle.nfca_poll.proofs.identifiers.LevelFacts.{IsLevel, IsLevels, levels_are}
-use Rattle.nfca_poll.proofs.identifiers.Fitting.{card_next, card_says, nth, fits, card_at, fits_level, fits_more, fits_not, fits_in, each_level, begins_split, begins_add, same_level, level_size as forty, ahead_rest, ahead_behind, rest_at, framed, sdd_at, asked_next, asked_says, asked_if}
+use Rattle.nfca_poll.proofs.identifiers.Fitting.{card_next, card_says, nth, fits, card_at, fits_level, fits_more, fits_not, fits_in, each_level, begins_split, begins_add, same_level}
+use Rattle.nfca_poll.proofs.identifiers.Fitting.{level_size as forty, ahead_rest, ahead_behind, rest_at, framed, sdd_at, asked_next, asked_says, asked_if}
 
 -- what a reader hears of some devices, without noise
 abbrev pub hears : Reading → List Card → Heard
@@ -247,7 +249,8 @@ asked_ends a m b done known v F here fm world _ (all e) =
     let lm : List Bool = bits_of l in
     let r : List Bool = drop (length known) lm in
     let whole : known ++ r ≡ lm = sym (begins_split known lm (fits_level done known (levels m.id) fm)) in (
-      world ∙ more_fit done known r W (each_map (λ y. r ≡ y) (λ y. begins r y ≡ true) (λ y p. (let R : List Bool → Type 0 = λ t. begins r t ≡ true in subst R p (begins_same r))) (filter_map (rest_at done known) W) e)
+      world ∙ more_fit done known r W (each_map (λ y. r ≡ y) (λ y. begins r y ≡ true) (λ y p. (let R : List Bool → Type 0 = λ t. begins r t ≡ true in subst R p (begins_same r)))
+          (filter_map (rest_at done known) W) e)
           ∙ ap (λ t. map (card_at done t) W) whole,
       fits_more done known lm (levels m.id) fm (begins_same lm),
       nth_level done known (levels m.id) (levels_are m.id here) fm,
@@ -275,10 +278,12 @@ asking_turn a m b done known v F k =
     let r : List Bool = drop (length known) lm in
     let here : IsIdent m.id = (each_has IsCard m W F.cards (has_middle m a b)).0 in
     let world : map (card_next f) v ≡ map (card_at done known) W =
-    world_after f (card_at done pre) (card_at done known) W v k.1 (each_map IsCard (λ c. card_next f (card_at done pre c) ≡ card_at done known c) (λ c h. asked_next done pre known c k.2 h.1) W F.cards) in
+    world_after f (card_at done pre) (card_at done known) W v k.1 (each_map IsCard (λ c. card_next f (card_at done pre c) ≡ card_at done known c) (λ c h. asked_next done pre known c k.2 h.1) W
+    F.cards) in
     let xs : List (List Bool) = filter_map (rest_at done known) W in
     let said : filter_map (card_says f) v ≡ map (of_bits A) xs =
-    answers_after f (card_at done pre) (λ c. framed (rest_at done known c)) W v k.1 (each_map IsCard (λ c. card_says f (card_at done pre c) ≡ framed (rest_at done known c)) (λ c h. asked_says done pre known c k.2 h.1) W F.cards)
+    answers_after f (card_at done pre) (λ c. framed (rest_at done known c)) W v k.1 (each_map IsCard (λ c. card_says f (card_at done pre c) ≡ framed (rest_at done known c))
+    (λ c h. asked_says done pre known c k.2 h.1) W F.cards)
     ∙ framed_all (rest_at done known) W in
     let heard : hears f v ≡ heard_bits xs = ap (λ t. heard_of (joint t)) said ∙ joint_bits xs in
     let own : rest_at done known m ≡ Some r = ap (λ t. if t then Some r else None) (and_make (is_idle m.front) (fits done known (levels m.id)) (ap is_idle F.idle) k.3) in
@@ -286,9 +291,11 @@ asking_turn a m b done known v F k =
     let good : Each (Good known r) xs =
     said_each (Good known r) (rest_at done known) W
     (each_with IsCard (λ c. is_idle c.front ≡ true → ahead (crowd_bits m.id) (crowd_bits c.id) ≡ true) (λ c. IfSaid (Good known r) (rest_at done known c))
-    (λ c i first. if_said (Good known r) (is_idle c.front && fits done known (levels c.id)) (drop (length known) (bits_of (nth (levels c.id) (length done)))) (good_answer done known m c here i.0 k.3 first))
+    (λ c i first. if_said (Good known r) (is_idle c.front && fits done known (levels c.id)) (drop (length known) (bits_of (nth (levels c.id) (length done))))
+    (good_answer done known m c here i.0 k.3 first))
     W F.cards F.first) in
     let whole : known ++ r ≡ lm = sym (begins_split known lm (fits_level done known (levels m.id) k.3)) in
     let Q : Seek → Type 0 = λ s. Seeks a m b s (map (card_next f) v) in
     subst Q (ap (seek_step (Asking done known)) (sym heard))
-    (asked_ends a m b done known v F here k.3 world (seek_step (Asking done known) (heard_bits xs)) (asked_result done known r l xs (nth_level done known (levels m.id) (levels_are m.id here) k.3) whole some good))
+    (asked_ends a m b done known v F here k.3 world (seek_step (Asking done known) (heard_bits xs))
+    (asked_result done known r l xs (nth_level done known (levels m.id) (levels_are m.id here) k.3) whole some good))

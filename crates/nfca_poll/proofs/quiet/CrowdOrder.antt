@@ -216,7 +216,8 @@ pub next_is : (found rest : List Picked) (p : Picked) → IsSorted (found ++ res
 next_is found rest p s u i h new first =
     elim (has_either p found rest h) [
       | inl k ↦ absurd (new k)
-      | inr k ↦ by_rest rest (sorted_back found rest s) (unlike_back found rest u) (each_of (λ (q : Picked). IsIdent q.id) rest (λ z m. each_has (λ (q : Picked). IsIdent q.id) z (found ++ rest) i (has_back z found rest m))) k first
+      | inr k ↦ by_rest rest (sorted_back found rest s) (unlike_back found rest u) (each_of (λ (q : Picked). IsIdent q.id) rest
+          (λ z m. each_has (λ (q : Picked). IsIdent q.id) z (found ++ rest) i (has_back z found rest m))) k first
     ]
   where
     by_rest : (zs : List Picked) → IsSorted zs → AllUnlike zs → Each (λ (q : Picked). IsIdent q.id) zs → Has p zs → ((z : Picked) → Has z zs → IsAhead p z) → (more : List Picked) × (zs ≡ p ∷ more)

@@ -117,6 +117,8 @@ module _ {L : Type 0} (m : Machine L) where
         let s : _ × _ = onto_back (λ c. is_active c.front ≡ false) (card_if ours l) (cards ours ls) i in
         let one : OneCard l = one_card l s.0 in
         let rest = cards_step ls s.1 in (
-          ap (λ o. cons_option o (cards ours (map step ls))) one.0 ∙ ap (cons_option (mapped (card_next (call_of f)) (card_if ours l))) rest.0 ∙ cons_mapped (card_next (call_of f)) (card_if ours l) (cards ours ls),
-          ap (λ o. cons_option o (filter_map says ls)) one.1 ∙ ap (cons_option (said_by (card_says (call_of f)) (card_if ours l))) rest.1 ∙ cons_said (card_says (call_of f)) (card_if ours l) (cards ours ls),
+          ap (λ o. cons_option o (cards ours (map step ls))) one.0 ∙ ap (cons_option (mapped (card_next (call_of f)) (card_if ours l))) rest.0
+              ∙ cons_mapped (card_next (call_of f)) (card_if ours l) (cards ours ls),
+          ap (λ o. cons_option o (filter_map says ls)) one.1 ∙ ap (cons_option (said_by (card_says (call_of f)) (card_if ours l))) rest.1
+              ∙ cons_said (card_says (call_of f)) (card_if ours l) (cards ours ls),
         )

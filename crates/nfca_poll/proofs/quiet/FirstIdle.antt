@@ -12,7 +12,8 @@ use Rattle.nfca_poll.specs.Enquiry.{LosesByBreak}
 use Rattle.nfca_poll.specs.Ident.{IsIdent}
 use Rattle.nfca_poll.specs.Front.{Active}
 use Rattle.nfca_poll.specs.Rounds.{is_same}
-use Rattle.nfca_poll.specs.Crowd.{Card, Each, ahead, crowd_bits, with_front, is_idle, is_rest, AreOurs, cards, picked_of, put_by, crowd, first_picked, first_idle, with_active, left_by, EndsByFirst, PicksFirst, PicksFromRest}
+use Rattle.nfca_poll.specs.Crowd.{Card, Each, ahead, crowd_bits, with_front, is_idle, is_rest, AreOurs, cards, picked_of, put_by, crowd, first_picked, first_idle, with_active, left_by, EndsByFirst}
+use Rattle.nfca_poll.specs.Crowd.{PicksFirst, PicksFromRest}
 use Rattle.nfca_poll.proofs.quiet.CrowdParts.{IsFirst, EndsThroughNoise, PicksThroughNoise, EndsAlone, FindsNobody}
 use Rattle.nfca_poll.proofs.identifiers.HeardBits.{pointwise_same, pointwise_path}
 use Rattle.nfca_poll.proofs.noise.NobodyIdle.{Sleeps}
@@ -58,7 +59,8 @@ IsBehind id c = is_idle c.front ≡ true → ahead (crowd_bits id) (crowd_bits c
 abbrev IsLater : List ℕ → Result Picked PollFault → Type 0
 IsLater id r = (r ≡ Err faults.Nobody) ⊎ ((q : Picked) × (r ≡ Ok q) × (ahead (crowd_bits id) (crowd_bits q.id) ≡ true))
 
-choose : (id : List ℕ) (v : Bool) (p q : Picked) → ahead (crowd_bits id) (crowd_bits p.id) ≡ true → ahead (crowd_bits id) (crowd_bits q.id) ≡ true → ahead (crowd_bits id) (crowd_bits (if v then p else q).id) ≡ true
+choose : (id : List ℕ) (v : Bool) (p q : Picked) → ahead (crowd_bits id) (crowd_bits p.id) ≡ true → ahead (crowd_bits id) (crowd_bits q.id) ≡ true
+    → ahead (crowd_bits id) (crowd_bits (if v then p else q).id) ≡ true
 choose id true p q h k = h
 choose id false p q h k = k
 
@@ -71,7 +73,11 @@ behind id (c ∷ w) e = by_front (is_idle c.front) refl (behind id w e.1)
     by_front false h (inr k) = inr (k.0, skipped c w h ∙ k.1, k.2)
     by_front true h (inl k) = inr (picked_of c, taken c w h ∙ put_empty (picked_of c) (crowd (filter (λ d. is_idle d.front) w)) k, e.0 h)
     by_front true h (inr k) =
-        inr ((if ahead (crowd_bits c.id) (crowd_bits k.0.id) then picked_of c else k.0), taken c w h ∙ put_first (picked_of c) (crowd (filter (λ d. is_idle d.front) w)) k.0 k.1, choose id (ahead (crowd_bits c.id) (crowd_bits k.0.id)) (picked_of c) k.0 (e.0 h) k.2)
+        inr (
+          (if ahead (crowd_bits c.id) (crowd_bits k.0.id) then picked_of c else k.0),
+          taken c w h ∙ put_first (picked_of c) (crowd (filter (λ d. is_idle d.front) w)) k.0 k.1,
+          choose id (ahead (crowd_bits c.id) (crowd_bits k.0.id)) (picked_of c) k.0 (e.0 h) k.2,
+        )
 
 at_first : (m : Card) (b : List Card) → is_idle m.front ≡ true → IsLater m.id (first_idle b) → first_idle (m ∷ b) ≡ Ok (picked_of m)
 at_first m b h (inl k) = taken m b h ∙ put_empty (picked_of m) (crowd (filter (λ d. is_idle d.front) b)) k
@@ -83,7 +89,8 @@ after_ids : (v : Bool) (p q : Picked) → (v ≡ true → ⊥) → ◌≡◌ {A 
 after_ids true p q h = absurd (h refl)
 after_ids false p q h = refl
 
-before_first : (a : List Card) (m : Card) (b : List Card) → IsIdent m.id → first_idle (m ∷ b) ≡ Ok (picked_of m) → Each (λ c. IsIdent c.id × (is_rest c.front ≡ true)) (a ++ m ∷ b) → Each (IsBehind m.id) (a ++ m ∷ b) → Each (λ c. c.id ≢ m.id) a
+before_first : (a : List Card) (m : Card) (b : List Card) → IsIdent m.id → first_idle (m ∷ b) ≡ Ok (picked_of m) → Each (λ c. IsIdent c.id × (is_rest c.front ≡ true)) (a ++ m ∷ b)
+    → Each (IsBehind m.id) (a ++ m ∷ b) → Each (λ c. c.id ≢ m.id) a
     → first_idle (a ++ m ∷ b) ≡ Ok (picked_of m)
 before_first [] m b i q cs f d = q
 before_first (c ∷ a) m b i q cs f d = by_front (is_idle c.front) refl (before_first a m b i q cs.1 f.1 d.1)
@@ -184,4 +191,5 @@ module _ {L : Type 0} (m : Machine L) (identifier' : L → List ℕ) (ours : Are
 
   pub picks_first : old.lit ≡ true → LosesByBreak old r new → PicksFromRest ours old r new → PicksFirst ours old r new
   picks_first lit lost from crowd z =
-      quiet (cards ours old.listeners) (cards ours new.listeners) r (noise (drop (length old.trace) new.trace)) z (λ e. no_break old.lit (drop (length old.trace) new.trace) lit z (lost e)) (from crowd)
+      quiet (cards ours old.listeners) (cards ours new.listeners) r (noise (drop (length old.trace) new.trace)) z (λ e. no_break old.lit (drop (length old.trace) new.trace) lit z (lost e))
+      (from crowd)

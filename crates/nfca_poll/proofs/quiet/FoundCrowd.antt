@@ -69,7 +69,8 @@ module _ (id : List ℕ) where
 
 module _ {L : Type 0} (m : Machine L) {identifier' : L → List ℕ} (polled : ArePolled m identifier') where
   -- how a call by rounds ends, by its trace
-  whole : {X : Type 0} (aim : Aim X) (old new : Air L) (r : Result X PollFault) → Enquires (searching aim) m old r new → AreTidy polled old.listeners → (field : HaveOwnIdents (cards polled.ours old.listeners))
+  whole : {X : Type 0} (aim : Aim X) (old new : Air L) (r : Result X PollFault) → Enquires (searching aim) m old r new → AreTidy polled old.listeners
+      → (field : HaveOwnIdents (cards polled.ours old.listeners))
       → (e : List Event) × Ending (searching aim) (mute_air m) (Holds m polled aim (cards polled.ours old.listeners) field) (moment new).world e r × (drop (length old.trace) new.trace ≡ e)
   whole aim old new r q tidy field =
       let w : List Card = cards polled.ours old.listeners in
@@ -112,7 +113,8 @@ finds_crowd m identifier' old new r q polled tidy field =
     subst P (sym k.2) (find_ending m polled (cards polled.ours old.listeners) field (moment new).world k.0 r k.1)
 
 -- And one that asks for one device leaves it active alone.
-pub selects_alone : {L : Type 0} (m : Machine L) (identifier' : L → List ℕ) (id : List ℕ) (old new : Air L) (r : Result Kind PollFault) → Enquires (picking id) m old r new → SelectsAlone m identifier' id old r new
+pub selects_alone : {L : Type 0} (m : Machine L) (identifier' : L → List ℕ) (id : List ℕ) (old new : Air L) (r : Result Kind PollFault) → Enquires (picking id) m old r new
+    → SelectsAlone m identifier' id old r new
 selects_alone m identifier' id old new r q polled tidy field =
     let k = whole m polled (device_of id) old new r q tidy field in
     let P : List Event → Type 0 = λ es. PickEnds id (cards polled.ours old.listeners) r (cards polled.ours new.listeners) es in

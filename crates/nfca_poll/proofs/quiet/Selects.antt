@@ -1,5 +1,6 @@
 -- SEL_REQ in a resolution without noise, and each turn of one.
-use Rattle.std.proofs.Common.{◌≡◌, ◌≢◌, ℕ, ◌+◌, ◌<◌, ◌≤◌, List, [], ◌∷◌, ◌++◌, length, map, filter_map, Bool, true, false, ◌&&◌, nat_lt, if◌then◌else◌, refl, sym, ◌∙◌, ap, subst, arith, Option, Some, None}
+use Rattle.std.proofs.Common.{◌≡◌, ◌≢◌, ℕ, ◌+◌, ◌<◌, ◌≤◌, List, [], ◌∷◌, ◌++◌, length, map, filter_map, Bool, true, false, ◌&&◌, nat_lt, if◌then◌else◌, refl, sym, ◌∙◌, ap, subst, arith, Option, Some}
+use Rattle.std.proofs.Common.{None}
 use Rattle.std.specs.List.{cons_option}
 use Rattle.std.proofs.lemmas.List.{length-append}
 use Rattle.nfc_base.specs.declared.frame.Tech.TheVariants.{A}
@@ -28,7 +29,8 @@ use Rattle.nfca_poll.proofs.identifiers.LevelParts.{by_seven, by_ten, by_length}
 use Rattle.nfca_poll.proofs.quiet.OneLevel.{by_four}
 use Rattle.nfca_poll.proofs.identifiers.LevelFacts.{IsLevel, IsLevels, levels_are}
 use Rattle.nfca_poll.proofs.identifiers.CallsRead.{sdd_read, sel_read}
-use Rattle.nfca_poll.proofs.identifiers.Fitting.{card_next, card_says, nth, fits, card_at, fits_level, fits_in, begins_whole, level_size as forty, level_by_bits, sel_at, sel_next, sel_says, fits_snoc, snoc_fits, fits_last, asked_if}
+use Rattle.nfca_poll.proofs.identifiers.Fitting.{card_next, card_says, nth, fits, card_at, fits_level, fits_in, begins_whole, level_size as forty, level_by_bits, sel_at, sel_next, sel_says, fits_snoc}
+use Rattle.nfca_poll.proofs.identifiers.Fitting.{snoc_fits, fits_last, asked_if}
 use Rattle.nfca_poll.proofs.quiet.Choosing.{hears, Seeks, IsCard, calling_turn, asking_turn, if_said, world_after, answers_after, nth_level}
 
 -- what a device says whose levels fit
@@ -158,11 +160,13 @@ other_stays done l mid c i im ne n g t =
         let a : IsLevels (levels c.id) = levels_are c.id i.0 in
         let h : fits done (bits_of l) (levels c.id) ≡ true = (and_both (is_idle c.front) (fits done (bits_of l) (levels c.id)) e).1 in
         let k : nat_lt (length done + 1) (length (levels c.id)) ≡ false =
-        more_at done l (levels mid) (levels c.id) b a (level_is done l (levels mid) b n g) (level_is done l (levels c.id) a n h) (fits_in done (bits_of l) (levels mid) g) (fits_in done (bits_of l) (levels c.id) h) ∙ t in
+        more_at done l (levels mid) (levels c.id) b a (level_is done l (levels mid) b n g) (level_is done l (levels c.id) a n h) (fits_in done (bits_of l) (levels mid) g)
+        (fits_in done (bits_of l) (levels c.id) h) ∙ t in
         let same : levels c.id ≡ levels mid = last_levels done l (levels c.id) a n h k ∙ sym (last_levels done l (levels mid) b n g t) in
         absurd (ne (sym (identifier_of c.id i.0) ∙ ap identifier same ∙ identifier_of mid im))
 
-first_taken : (done : List (List ℕ)) (l : List ℕ) (m : Card) → IsLevels (levels m.id) → m.front ≡ Idle → IsLevel l → fits done (bits_of l) (levels m.id) ≡ true → nat_lt (length done + 1) (length (levels m.id)) ≡ false
+first_taken : (done : List (List ℕ)) (l : List ℕ) (m : Card) → IsLevels (levels m.id) → m.front ≡ Idle → IsLevel l → fits done (bits_of l) (levels m.id) ≡ true
+    → nat_lt (length done + 1) (length (levels m.id)) ≡ false
     → (card_next (sel_at done l) (card_at done (bits_of l) m) ≡ with_front m (Active false)) × (card_says (sel_at done l) (card_at done (bits_of l) m) ≡ Some (sel_res m.kind))
 first_taken done l m b i n g t =
     let ready : card_at done (bits_of l) m ≡ with_front m (Ready (length done + 1) false) =
@@ -172,7 +176,8 @@ first_taken done l m b i n g t =
       ap (card_says (sel_at done l)) ready ∙ sel_says m.id m.kind done l false e t,
     )
 
-said_middle : (p : Card → Option Signal) (a : List Card) (m : Card) (b : List Card) (g : Signal) → Each (λ c. p c ≡ None) a → p m ≡ Some g → Each (λ c. p c ≡ None) b → filter_map p (a ++ m ∷ b) ≡ g ∷ []
+said_middle : (p : Card → Option Signal) (a : List Card) (m : Card) (b : List Card) (g : Signal) → Each (λ c. p c ≡ None) a → p m ≡ Some g → Each (λ c. p c ≡ None) b
+    → filter_map p (a ++ m ∷ b) ≡ g ∷ []
 said_middle p [] m b g x y z = ap (λ o. cons_option o (filter_map p b)) y ∙ ap (λ t. g ∷ t) (said_none p b z)
 said_middle p (c ∷ a) m b g x y z = ap (λ o. cons_option o (filter_map p (a ++ m ∷ b))) x.0 ∙ said_middle p a m b g x.1 y z
 
@@ -221,14 +226,17 @@ selecting_turn a m b done l v F k = by_cases (nat_lt (length done + 1) (length (
         let g : Signal = more_levels in
         let world : map (card_next f) v ≡ map (card_at (done ++ l ∷ []) []) W =
         world_after f (card_at done (bits_of l)) (card_at (done ++ l ∷ []) []) W v k.0
-        (each_map IsCard (λ c. card_next f (card_at done (bits_of l) c) ≡ card_at (done ++ l ∷ []) [] c) (λ c h. (sel_more_by done l c.id m.id c.kind c.front (levels_are c.id h.0) here h.1 k.2 k.1 t).0) W F.cards) in
+        (each_map IsCard (λ c. card_next f (card_at done (bits_of l) c) ≡ card_at (done ++ l ∷ []) [] c)
+        (λ c h. (sel_more_by done l c.id m.id c.kind c.front (levels_are c.id h.0) here h.1 k.2 k.1 t).0) W F.cards) in
         let heard : filter_map (card_says f) v ≡ filter_map (said_at done l g) W =
         answers_after f (card_at done (bits_of l)) (said_at done l g) W v k.0
-        (each_map IsCard (λ c. card_says f (card_at done (bits_of l) c) ≡ said_at done l g c) (λ c h. (sel_more_by done l c.id m.id c.kind c.front (levels_are c.id h.0) here h.1 k.2 k.1 t).1) W F.cards) in
+        (each_map IsCard (λ c. card_says f (card_at done (bits_of l) c) ≡ said_at done l g c) (λ c h. (sel_more_by done l c.id m.id c.kind c.front (levels_are c.id h.0) here h.1 k.2 k.1 t).1) W
+        F.cards) in
         let own : said_at done l g m ≡ Some g = ap (λ x. if x then Some g else None) (and_make (is_idle m.front) (fits done (bits_of l) (levels m.id)) (ap is_idle F.idle) k.1) in
         let one : joint (filter_map (said_at done l g) W) ≡ Single g =
         joint_one g (filter_map (said_at done l g) W) refl (said_has (said_at done l g) m g W (has_middle m a b) own)
-        (said_each (λ y. g ≡ y) (said_at done l g) W (each_map IsCard (λ c. IfSaid (λ y. g ≡ y) (said_at done l g c)) (λ c h. if_said (λ y. g ≡ y) (is_idle c.front && fits done (bits_of l) (levels c.id)) g (λ i. refl)) W F.cards)) in
+        (said_each (λ y. g ≡ y) (said_at done l g) W (each_map IsCard (λ c. IfSaid (λ y. g ≡ y) (said_at done l g c))
+        (λ c h. if_said (λ y. g ≡ y) (is_idle c.front && fits done (bits_of l) (levels c.id)) g (λ i. refl)) W F.cards)) in
         let state : seek_step (Selecting done l) (hears f v) ≡ Asking (done ++ l ∷ []) [] =
         ap (λ x. seek_step (Selecting done l) (heard_of (joint x))) heard ∙ ap (λ x. seek_step (Selecting done l) (heard_of x)) one
         ∙ ap (λ x. if x then Asking (done ++ l ∷ []) [] else Ended BadAnswer) (cascades_more done l (levels m.id) here k.2 k.1 ∙ t) in
@@ -240,7 +248,8 @@ selecting_turn a m b done l v F k = by_cases (nat_lt (length done + 1) (length (
         let O : Card → Type 0 = λ c. (card_next f (card_at done (bits_of l) c) ≡ c) × (card_says f (card_at done (bits_of l) c) ≡ None) in
         let before : Each O a = each_with IsCard (λ c. c.id ≢ m.id) O (λ c i ne. other_stays done l m.id c i own_id ne k.2 k.1 t) a (each_front IsCard a (m ∷ b) F.cards) F.distinct_before in
         let after : Each O b = each_with IsCard (λ c. c.id ≢ m.id) O (λ c i ne. other_stays done l m.id c i own_id ne k.2 k.1 t) b (each_back IsCard a (m ∷ b) F.cards).1 F.distinct_after in
-        let own : (card_next f (card_at done (bits_of l) m) ≡ with_front m (Active false)) × (card_says f (card_at done (bits_of l) m) ≡ Some (sel_res m.kind)) = first_taken done l m here F.idle k.2 k.1 t in
+        let own : (card_next f (card_at done (bits_of l) m) ≡ with_front m (Active false)) × (card_says f (card_at done (bits_of l) m) ≡ Some (sel_res m.kind)) =
+        first_taken done l m here F.idle k.2 k.1 t in
         let h : Card → Card = λ c. card_next f (card_at done (bits_of l) c) in
         let p : Card → Option Signal = λ c. card_says f (card_at done (bits_of l) c) in
         let world : map (card_next f) v ≡ a ++ with_front m (Active false) ∷ b =

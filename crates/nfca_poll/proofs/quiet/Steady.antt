@@ -1,5 +1,6 @@
 -- Questions among listeners that answer the same however often they are asked.
-use Rattle.std.proofs.Common.{◌≡◌, ◌⊎◌, ℕ, zero, suc, ◌+◌, ◌≤◌, List, [], ◌∷◌, ◌++◌, length, drop, map, filter_map, Bool, true, false, ◌&&◌, ◌==◌, nat_eq, if◌then◌else◌, inl, inr, refl, sym, ◌∙◌, ap, subst, append_assoc, arith, Option, Some, None}
+use Rattle.std.proofs.Common.{◌≡◌, ◌⊎◌, ℕ, zero, suc, ◌+◌, ◌≤◌, List, [], ◌∷◌, ◌++◌, length, drop, map, filter_map, Bool, true, false, ◌&&◌, ◌==◌, nat_eq, if◌then◌else◌, inl, inr, refl, sym, ◌∙◌, ap}
+use Rattle.std.proofs.Common.{subst, append_assoc, arith, Option, Some, None}
 use Rattle.std.specs.List.{cons_option}
 use Rattle.std.specs.Cmp.Lexicographic.{pointwise}
 use Rattle.nfc_base.specs.declared.frame.Tech.{Tech}
@@ -196,7 +197,8 @@ module _ {L : Type 0} (m : Machine L) (f : Signal) where
         by_one rest (Some x) q (inl k) = w.0 g (q ∙ ap Some (sym k))
         by_one rest (Some x) q (inr k) = rest k
 
-    well_was : (g : Signal) (ls : List L) (w v : World L) (h : Heard) (t : ℕ) → Each (IsSteady m f) ls → Again ls w.listeners → Each (AnswersBy shows m f) ls → WorldWas m w f v h t → h ≡ Whole g → shows g ≡ true
+    well_was : (g : Signal) (ls : List L) (w v : World L) (h : Heard) (t : ℕ) → Each (IsSteady m f) ls → Again ls w.listeners → Each (AnswersBy shows m f) ls → WorldWas m w f v h t → h ≡ Whole g
+        → shows g ≡ true
     well_was g ls w _ h _ s j well passed e =
         let all = heard_all ls w.listeners s j in well_in g ls well (joint_in g (filter_map answer_of ls) (sym e ∙ ap (λ x. heard_of (joint x)) all.1))
     well_was g ls w _ _ _ s j well unheard e = absurd cc
@@ -233,12 +235,14 @@ module _ {L : Type 0} (m : Machine L) (f : Signal) where
     vain_turn old now new st n d d' h vain r t i s =
         let k = vain s in
         let gs : List Signal = filter_map answer_of old.listeners in
-        let one = one_vain gs old.listeners (moment now).world (moment new).world h (noise (events_of m now f)) n (noise (drop (length old.trace) now.trace)) d d' s k.0 refl (world_was m now new f h t) i k.1 in
+        let one = one_vain gs old.listeners (moment now).world (moment new).world h (noise (events_of m now f)) n (noise (drop (length old.trace) now.trace)) d d' s k.0 refl
+        (world_was m now new f h t) i k.1 in
         let N : ℕ → Type 0 = λ x. Vain gs (n + 1) d' x in
         (one.0, subst N (noise_so_far old now new st h r t) one.1)
 
     -- where each answers well, so does what is heard whole
-    pub well_heard : (shows : Signal → Bool) (old now new : Air L) (n : ℕ) (d : Bool) (h : Heard) (g : Signal) → InVain old now n d → TurnsTo (mute_air m) (moment now) (moment new) f (Some h) → h ≡ Whole g
+    pub well_heard : (shows : Signal → Bool) (old now new : Air L) (n : ℕ) (d : Bool) (h : Heard) (g : Signal) → InVain old now n d → TurnsTo (mute_air m) (moment now) (moment new) f (Some h)
+        → h ≡ Whole g
         → Each (IsSteady m f) old.listeners → Each (AnswersBy shows m f) old.listeners → shows g ≡ true
     well_heard shows old now new n d h g vain t whole s well =
         well_was shows g old.listeners (moment now).world (moment new).world h (noise (events_of m now f)) s (vain s).0 well (world_was m now new f h t) whole
@@ -267,5 +271,6 @@ module _ {L : Type 0} (m : Machine L) (f : Signal) where
   far ls n k a (inl x) = inl x
   far ls n k a (inr y) = inr (omega (arith, a, y))
 
-  pub far_missed : (old new : Air L) (n : ℕ) (d : Bool) → 4 ≤ n → InVain old new n d → Each (IsSteady m f) old.listeners → NoneAnswers m f old.listeners ⊎ (4 ≤ noise (drop (length old.trace) new.trace))
+  pub far_missed : (old new : Air L) (n : ℕ) (d : Bool) → 4 ≤ n → InVain old new n d → Each (IsSteady m f) old.listeners
+      → NoneAnswers m f old.listeners ⊎ (4 ≤ noise (drop (length old.trace) new.trace))
   far_missed old new n d a vain s = far old.listeners n (noise (drop (length old.trace) new.trace)) a (vain_missed old new n d vain s)

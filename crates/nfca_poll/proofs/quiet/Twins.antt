@@ -165,7 +165,8 @@ distinct_rested [] e = tt
 distinct_rested (c ∷ v) e = (each_rested (λ x. x ≢ c.id) v e.0, distinct_rested v e.1)
 
 -- SENS_REQ
-woken_by : (id : List ℕ) (k : Kind) (f : Front) → IsIdent id → Twin (card_at [] [] (at_rest (card_next (Calls Sens) (record { id = id; kind = k; front = f })))) (card_next (Calls Sens) (record { id = id; kind = k; front = f }))
+woken_by : (id : List ℕ) (k : Kind) (f : Front) → IsIdent id → Twin (card_at [] [] (at_rest (card_next (Calls Sens) (record { id = id; kind = k; front = f }))))
+    (card_next (Calls Sens) (record { id = id; kind = k; front = f }))
 woken_by id k Off i = inl refl
 woken_by id k Idle i = inl (ap (λ v. asked_if (record { id = id; kind = k; front = Idle }) 0 v) (has_levels (levels id) (some_levels id i)))
 woken_by id k Sleep i = inl refl
@@ -192,7 +193,8 @@ woken_twins may (c ∷ v) [] i e = absurd e
 woken_twins may (c ∷ v) (d ∷ u) i e = (woken_twin may c d i.0 e.0, woken_twins may v u i.1 e.1)
 
 -- one that has answered is idle in that crowd
-answers_by : (may : Bool) (id : List ℕ) (k : Kind) (f : Front) (d : Card) → Moves may (Calls Sens) (record { id = id; kind = k; front = f }) d → Sleeps (at_rest d) → card_says (Calls Sens) (record { id = id; kind = k; front = f }) ≡ None
+answers_by : (may : Bool) (id : List ℕ) (k : Kind) (f : Front) (d : Card) → Moves may (Calls Sens) (record { id = id; kind = k; front = f }) d → Sleeps (at_rest d)
+    → card_says (Calls Sens) (record { id = id; kind = k; front = f }) ≡ None
 answers_by may id k Off d e s = refl
 answers_by may id k Idle d (inl e) s = let T : Card → Type 0 = λ x. is_idle (rested x.front) ≡ false in wrong_back (subst T e s.1)
 answers_by may id k Idle d (inr t) s = wrong t.1
@@ -216,7 +218,8 @@ pub record Woken (u : List Card) : Type 0 where
   pub rests : before ++ first ∷ behind ≡ map at_rest u
   pub twins : Pairs Twin (map (card_at [] []) (before ++ first ∷ behind)) u
 
-pub woken : (may : Bool) (v u : List Card) (g : Signal) → Each (λ c. IsIdent c.id) v → Each (λ c. IsIdent c.id) u → AreDistinct u → Pairs (Moves may (Calls Sens)) v u → Has g (filter_map (card_says (Calls Sens)) v) → Woken u
+pub woken : (may : Bool) (v u : List Card) (g : Signal) → Each (λ c. IsIdent c.id) v → Each (λ c. IsIdent c.id) u → AreDistinct u → Pairs (Moves may (Calls Sens)) v u
+    → Has g (filter_map (card_says (Calls Sens)) v) → Woken u
 woken may v u g i j d e h = by_lead (map at_rest u) refl (leads (map at_rest u) (each_at_rest u j) (distinct_rested u d))
   where
     by_lead : (w : List Card) → map at_rest u ≡ w → Leads w → Woken u

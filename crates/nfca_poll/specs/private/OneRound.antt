@@ -1,5 +1,5 @@
--- One round of polling alone: it goes by the steps of a call by rounds, and no other round follows (rounds are this project's
--- own).
+-- One round of polling alone: it goes by the steps of a call by rounds, and no other round follows (rounds are this
+-- project's own).
 use Rattle.std.specs.Prelude.{ℕ, List, Bool, false, if◌then◌else◌, Option, Some, None, Ok}
 use Rattle.nfca_poll.specs.declared.fault.Picked.{Picked}
 use Rattle.nfca_poll.specs.declared.rounds.RoundEnd.{RoundEnd}

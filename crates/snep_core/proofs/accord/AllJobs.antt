@@ -9,7 +9,8 @@ use Rattle.llcp_link.proofs.Submitted.{own_with}
 use Rattle.snep_core.specs.declared.job.Awaiting.{Awaiting}
 use Rattle.snep_core.specs.Jobs.{Job, Begins, Waits, Sends, Asks, Collects, Looks, Closes, Over, Done, has_byte, told_in}
 use Rattle.snep_core.specs.Listening.{HearsAll, all_awaiting, all_come, awaited_saps, empties, forgets, gave_here, gave_one}
-use Rattle.snep_core.specs.Talk.{AllReady, EndState, OnSap, all_emptied, all_forgotten, all_heard, all_readied, all_well, emptied, emptied_by, finished, found_so, gave_any, gave_between, heard, heard_so, heard_with, is_lost, is_there, is_waiting, needs, own_of, readied, saps, stands_of, units_of}
+use Rattle.snep_core.specs.Talk.{AllReady, EndState, OnSap, all_emptied, all_forgotten, all_heard, all_readied, all_well, emptied, emptied_by, finished, found_so, gave_any, gave_between, heard}
+use Rattle.snep_core.specs.Talk.{heard_so, heard_with, is_lost, is_there, is_waiting, needs, own_of, readied, saps, stands_of, units_of}
 use Rattle.snep_core.proofs.jobs.CallsEnd.{NotAmong}
 use Rattle.snep_core.proofs.connections.Owned.{forgotten_emptied}
 use Rattle.snep_core.proofs.jobs.Readied.{elsewhere}

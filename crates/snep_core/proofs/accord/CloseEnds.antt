@@ -1,5 +1,6 @@
 -- What the end of all connections comes to at a peer that its client accords with.
-use Rattle.std.proofs.Common.{◌≡◌, ◌≤◌, ℕ, zero, suc, ◌+◌, ◌-◌, ◌==◌, ◌||◌, ◌&&◌, not, Bool, true, false, List, [], ◌∷◌, ◌++◌, append-nil, append_assoc, length, map, Option, Some, None, refl, sym, ◌∙◌, ap, subst, inl, inr, arith, if◌then◌else◌}
+use Rattle.std.proofs.Common.{◌≡◌, ◌≤◌, ℕ, zero, suc, ◌+◌, ◌-◌, ◌==◌, ◌||◌, ◌&&◌, not, Bool, true, false, List, [], ◌∷◌, ◌++◌, append-nil, append_assoc, length, map, Option, Some, None, refl, sym}
+use Rattle.std.proofs.Common.{◌∙◌, ap, subst, inl, inr, arith, if◌then◌else◌}
 use Rattle.std.proofs.lemmas.Bool.{eqb-true}
 use Rattle.std.proofs.lemmas.List.{map-append}
 use Rattle.nfc_base.specs.Links.{CarrierView, FarStep}
@@ -17,7 +18,9 @@ use Rattle.snep_core.specs.Accord.{Accords, AsideFails, IsClientSap, IsClosed, I
 use Rattle.snep_core.specs.Calling.{FailsBy, Talks, fault_of, gives_up}
 use Rattle.snep_core.specs.Jobs.{Closes, Done, Job, Over, has_byte, told_in}
 use Rattle.snep_core.specs.Server.{Received, ServerState, serving}
-use Rattle.snep_core.specs.Talk.{AllReady, CameTo, EndState, Ends, GivesUp, Goes, OnSap, Step, Working, all_closed, all_emptied, all_heard, all_opening, all_over, all_readied, all_well, as_they_came, begun, client_saps, closes, emptied, gave_any, gave_something, goes_on, heard, heard_so, heard_with, idle_after, is_over, is_waiting, leave_from, leaving, own_of, payload, readied, ready, ready_so, replied, replied_ready, settled, silent, call_behind, took, units_of, with_job}
+use Rattle.snep_core.specs.Talk.{AllReady, CameTo, EndState, Ends, GivesUp, Goes, OnSap, Step, Working, all_closed, all_emptied, all_heard, all_opening, all_over, all_readied, all_well, as_they_came}
+use Rattle.snep_core.specs.Talk.{begun, client_saps, closes, emptied, gave_any, gave_something, goes_on, heard, heard_so, heard_with, idle_after, is_over, is_waiting, leave_from, leaving, own_of}
+use Rattle.snep_core.specs.Talk.{payload, readied, ready, ready_so, replied, replied_ready, settled, silent, call_behind, took, units_of, with_job}
 use Rattle.snep_core.proofs.connections.Asides.{AllRested, Quiet, Rested, accord_at, client_queues, sides_at, sides_by}
 use Rattle.snep_core.proofs.connections.Carrying.{AtFronts, FirstSo, HopSo, at_front, handed, handed_first}
 use Rattle.snep_core.proofs.jobs.Courses.{Course, IsSafe, breaks_off, came}

@@ -16,7 +16,8 @@ use Rattle.snep_core.proofs.accord.RequestEnds.{AddsSome, Ended, Failed, Fate, r
 use Rattle.snep_core.proofs.requests.RequestPhases.{IsRead}
 use Rattle.snep_core.proofs.connections.Sides.{Sizes}
 
-module _ (sap : ℕ) (range : IsClientSap sap) (most : ℕ) (key : List ℕ) (p : PeerState) (fits : length key ≤ 65536) (x : GetOutcome sap p.service.limit p.service.table most key p.service.accepted) (z : Sizes) where
+module _ (sap : ℕ) (range : IsClientSap sap) (most : ℕ) (key : List ℕ) (p : PeerState) (fits : length key ≤ 65536) (x : GetOutcome sap p.service.limit p.service.table most key p.service.accepted)
+    (z : Sizes) where
   abbrev read : IsRead p.service.limit (ask most key)
   read = get_read p.service.limit most key fits
 
@@ -58,7 +59,8 @@ module _ (sap : ℕ) (range : IsClientSap sap) (most : ℕ) (key : List ℕ) (p 
     broken_at cause.Memory h = h
 
 module _ {C A : Type 0} (seen : C → CarrierView) (swaps : C → List ℕ → List FarStep → C → Type 0) (steps : A → List ℕ → List ℕ → A → Type 0) (stops : A → List ℕ → A → Type 0)
-    (view : A → PeerState) (peer : IsPeer steps stops view) (sap : ℕ) (range : IsClientSap sap) (most : ℕ) (small : most < 2 ^ 32) (key : List ℕ) (fits : length key ≤ 65536) (client : EndState) (link : C) (far : A)
+    (view : A → PeerState) (peer : IsPeer steps stops view) (sap : ℕ) (range : IsClientSap sap) (most : ℕ) (small : most < 2 ^ 32) (key : List ℕ) (fits : length key ≤ 65536) (client : EndState)
+    (link : C) (far : A)
     (a : Accords client (view far)) (numbers : List ℕ) where
   abbrev comes : GetOutcome sap (view far).service.limit (view far).service.table most key (view far).service.accepted
   comes = get_outcome sap (view far).service.limit (view far).service.table most key (view far).service.accepted small
@@ -67,7 +69,8 @@ module _ {C A : Type 0} (seen : C → CarrierView) (swaps : C → List ℕ → L
   z_ = sizes_of client (view far)
 
   -- the value was told
-  pub get_got : (v : List ℕ) (new : EndState) (now : C) (after : A) → Talks seen swaps steps stops numbers (begins_from client sap (Gets most key)) link far (Ends (one_on sap (Over (Value v))) new) now after
+  pub get_got : (v : List ℕ) (new : EndState) (now : C) (after : A) → Talks seen swaps steps stops numbers (begins_from client sap (Gets most key)) link far (Ends (one_on sap (Over (Value v))) new)
+      now after
       → IsGot sap most key v (view far) new (view after)
   get_got v new now after t =
       got_at sap range most key (view far) fits comes z_ new (view after) v
@@ -79,7 +82,8 @@ module _ {C A : Type 0} (seen : C → CarrierView) (swaps : C → List ℕ → L
   get_fails e new now after h =
       go (request_failed seen swaps steps stops view peer client link far a numbers sap range (ask most key) (read sap range most key (view far) fits comes z_) comes.outcome e new now after h)
     where
-      go : Failed seen swaps steps stops view peer client link far a numbers sap range (ask most key) (read sap range most key (view far) fits comes z_) comes.outcome e new after → GetFails sap most key (view far) e new (view after)
+      go : Failed seen swaps steps stops view peer client link far a numbers sap range (ask most key) (read sap range most key (view far) fits comes z_) comes.outcome e new after
+          → GetFails sap most key (view far) e new (view after)
       go (inl (why, f, y)) = subst (λ w. GetFails sap most key (view far) w new (view after)) (sym f) (refused_at sap range most key (view far) fits comes z_ new (view after) why y)
       go (inr (why, f, y)) =
           subst (λ w. GetFails sap most key (view far) w new (view after)) (sym f)

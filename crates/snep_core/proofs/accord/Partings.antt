@@ -1,5 +1,6 @@
 -- A client that ends its connections and a peer that it accords with, PDU by PDU: DISCs that wait at the client, DMs that wait at the peer.
-use Rattle.std.proofs.Common.{◌≡◌, ◌<◌, ◌≤◌, nat_le, ℕ, ◌+◌, ◌==◌, Bool, true, false, List, [], ◌∷◌, ◌++◌, append_assoc, length, length-append, map, Option, Some, None, refl, sym, ◌∙◌, ap, subst, inl, arith, if◌then◌else◌}
+use Rattle.std.proofs.Common.{◌≡◌, ◌<◌, ◌≤◌, nat_le, ℕ, ◌+◌, ◌==◌, Bool, true, false, List, [], ◌∷◌, ◌++◌, append_assoc, length, length-append, map, Option, Some, None, refl, sym, ◌∙◌, ap, subst, inl}
+use Rattle.std.proofs.Common.{arith, if◌then◌else◌}
 use Rattle.std.proofs.lemmas.Bool.Decides.{nat_tests}
 use Rattle.std.proofs.lemmas.List.{map-append}
 use Rattle.llcp_pdu.specs.declared.part.Part.TheVariants.{Disc, Dm}
@@ -207,7 +208,8 @@ module _ (names : List Bound) (s : ServerState) (z : Sizes) where
     pub client_quiet : gave silent l ≡ None
     client_quiet =
         subst (λ w. gave_from silent l w ≡ None) (sym h.sides.client_queue)
-        (found_of (informs silent l) (λ o. or_else o (first_of_all l.last (acknowledges l)) ≡ None) (λ t x i. absurd (let e : None ≡ Some x = sym (still t).0 ∙ i in cc)) l.last h.sides.client_fair.last
+        (found_of (informs silent l) (λ o. or_else o (first_of_all l.last (acknowledges l)) ≡ None) (λ t x i. absurd (let e : None ≡ Some x = sym (still t).0 ∙ i in cc)) l.last
+        h.sides.client_fair.last
         (λ k. found_of (acknowledges l) (λ o. o ≡ None) (λ t x i. absurd (let e : None ≡ Some x = sym (still t).1 ∙ i in cc)) l.last h.sides.client_fair.last (λ m. refl)))
 
   module _ (waits : List ℕ) (l : EndState) (p : PeerState) (h : Stands [] waits l p) where

@@ -66,8 +66,10 @@ module _ {C A : Type 0} (seen : C → CarrierView) (swaps : C → List ℕ → L
   pub put_fails : (e : SnepFault) (new : EndState) (now : C) (after : A) → RequestFails seen swaps steps stops sap numbers (begins_from client sap (Puts m)) link far e new now after
       → PutFails sap m (view far) e new (view after)
   put_fails e new now after h =
-      go (request_failed seen swaps steps stops view peer client link far a numbers sap range (ask m) (read sap range m (view far) short z_) (outcome sap range m (view far) short z_) e new now after h)
+      go (request_failed seen swaps steps stops view peer client link far a numbers sap range (ask m) (read sap range m (view far) short z_) (outcome sap range m (view far) short z_) e new now after
+      h)
     where
-      go : Failed seen swaps steps stops view peer client link far a numbers sap range (ask m) (read sap range m (view far) short z_) (outcome sap range m (view far) short z_) e new after → PutFails sap m (view far) e new (view after)
+      go : Failed seen swaps steps stops view peer client link far a numbers sap range (ask m) (read sap range m (view far) short z_) (outcome sap range m (view far) short z_) e new after
+          → PutFails sap m (view far) e new (view after)
       go (inl (why, f, x)) = subst (λ z. PutFails sap m (view far) z new (view after)) (sym f) (refused_at sap range m (view far) short z_ new (view after) why x)
       go (inr (why, f, x)) = subst (λ z. PutFails sap m (view far) z new (view after)) (sym f) (broken_at sap range m (view far) short z_ new (view after) why x)

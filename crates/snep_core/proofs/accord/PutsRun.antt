@@ -123,7 +123,8 @@ module _ {C A : Type 0} (seen : C → CarrierView) (swaps : C → List ℕ → L
       ours unlike ranges (mine p.service.limit p.service.table p.bound p.service.accepted z_ ours c_ m_ b_ (laws_ p z_ ours ranges message short))
       (idles p.service.limit p.service.table p.bound p.service.accepted z_ ours c_ m_ b_ (laws_ p z_ ours ranges message short)) Added all_add
 
-  firsts_agree : (ss : List ℕ) → ((s : ℕ) → is_in s ss ≡ true → is_in s ours ≡ true) → Agrees (firsts p.service.limit p.service.table p.bound p.service.accepted z_ ours c_ m_ b_ (laws_ p z_ ours ranges message short)) (put_jobs message ss)
+  firsts_agree : (ss : List ℕ) → ((s : ℕ) → is_in s ss ≡ true → is_in s ours ≡ true) → Agrees
+      (firsts p.service.limit p.service.table p.bound p.service.accepted z_ ours c_ m_ b_ (laws_ p z_ ours ranges message short)) (put_jobs message ss)
   firsts_agree [] h = tt
   firsts_agree (s ∷ ss) h = (
     ap (first_by p.service.limit p.service.table p.bound p.service.accepted z_ ours c_ m_ b_ (laws_ p z_ ours ranges message short) s) (h s (ap (λ b. b || is_in s ss) (is_self s))),
@@ -169,7 +170,8 @@ module _ {C A : Type 0} (seen : C → CarrierView) (swaps : C → List ℕ → L
             ours unlike ranges (mine p.service.limit p.service.table p.bound p.service.accepted z_ ours c_ m_ b_ (laws_ p z_ ours ranges message short))
             (idles p.service.limit p.service.table p.bound p.service.accepted z_ ours c_ m_ b_ (laws_ p z_ ours ranges message short)) job new q w.4.meets
             (λ s m. over s (sym (mine p.service.limit p.service.table p.bound p.service.accepted z_ ours c_ m_ b_ (laws_ p z_ ours ranges message short) s) ∙ m))
-            (λ s m. (let i = sym (mine p.service.limit p.service.table p.bound p.service.accepted z_ ours c_ m_ b_ (laws_ p z_ ours ranges message short) s) ∙ m in let e = over_is (job s) (over s i) in done_from p z_ ours ranges message short job new q w.4.meets s i e.0 e.1));
+            (λ s m. (let i = sym (mine p.service.limit p.service.table p.bound p.service.accepted z_ ours c_ m_ b_ (laws_ p z_ ours ranges message short) s) ∙ m in
+            let e = over_is (job s) (over s i) in done_from p z_ ours ranges message short job new q w.4.meets s i e.0 e.1));
       }
 
   -- What is added where a call is cut off whose jobs stood so: what was answered before stays so.

@@ -26,7 +26,8 @@ use Rattle.snep_core.proofs.connections.Sides.{Sizes}
 use Rattle.snep_core.proofs.requests.OneJob.{OneMeets, OneRests, idles, is_ours, job_here, jobs, keeps, mine, only_mine, ours, plan, plan_by, ranges, rests, unlike}
 use Rattle.snep_core.proofs.jobs.Turns.{few_at_first}
 use Rattle.snep_core.proofs.requests.RequestAnswers.{request_converses, request_starts}
-use Rattle.snep_core.proofs.requests.RequestPhases.{Asked, Came, ContinueHeard, Continues, Holds, IsRead, Outcome, Phase, Refusing, Rejected, RefusalHeard, Sending, Submitted, Unsent, accepted_at, bytes_of, conversation}
+use Rattle.snep_core.proofs.requests.RequestPhases.{Asked, Came, ContinueHeard, Continues, Holds, IsRead, Outcome, Phase, Refusing, Rejected, RefusalHeard, Sending, Submitted, Unsent, accepted_at}
+use Rattle.snep_core.proofs.requests.RequestPhases.{bytes_of, conversation}
 
 ends_nowhere : (most : Option ℕ) (rest : List ℕ) (e : Ending) → Over e ≡ behind_first most rest → ⊥
 ends_nowhere most [] e q = cc
@@ -102,7 +103,10 @@ module _ (sap : ℕ) (range : IsClientSap sap) (ask : Asked) (p : PeerState) (re
     all_accepted : (m : Option (List ℕ)) → accepted_from sap q.service.accepted ≡ accepted_from sap (old ++ received sap m) → q.service.accepted ≡ old ++ received sap m
     all_accepted m e =
         whole_of sap old q.service.accepted h.sides.kept.more m h.sides.kept.grew
-        (λ s n. others_got limit table names old z plan_ (keeps limit table names old z sap conv ask.most (bytes_of ask) range laws) (rests limit table names old z sap conv ask.most (bytes_of ask) range laws) (ours limit table names old z sap conv ask.most (bytes_of ask) range laws) (unlike limit table names old z sap conv ask.most (bytes_of ask) range laws) (ranges limit table names old z sap conv ask.most (bytes_of ask) range laws) (mine limit table names old z sap conv ask.most (bytes_of ask) range laws) (idles limit table names old z sap conv ask.most (bytes_of ask) range laws)
+        (λ s n. others_got limit table names old z plan_ (keeps limit table names old z sap conv ask.most (bytes_of ask) range laws)
+        (rests limit table names old z sap conv ask.most (bytes_of ask) range laws) (ours limit table names old z sap conv ask.most (bytes_of ask) range laws)
+        (unlike limit table names old z sap conv ask.most (bytes_of ask) range laws) (ranges limit table names old z sap conv ask.most (bytes_of ask) range laws)
+        (mine limit table names old z sap conv ask.most (bytes_of ask) range laws) (idles limit table names old z sap conv ask.most (bytes_of ask) range laws)
         job l q h s (ap (λ b. (plan_by limit table names old z sap conv ask.most (bytes_of ask) range laws b).is_job) n)) e
 
     nothing_more : accepted_from sap q.service.accepted ≡ accepted_from sap old → q.service.accepted ≡ old
@@ -125,7 +129,8 @@ module _ (sap : ℕ) (range : IsClientSap sap) (ask : Asked) (p : PeerState) (re
 
     stands_ : By (job sap) (is_in sap h.asked) (is_in sap h.awaited) l q
     stands_ =
-        subst (λ b. StandsBy limit table old z sap (plan_by limit table names old z sap conv ask.most (bytes_of ask) range laws b) (job sap) (is_in sap h.asked) (is_in sap h.awaited) (own_from sap l.own)
+        subst (λ b. StandsBy limit table old z sap (plan_by limit table names old z sap conv ask.most (bytes_of ask) range laws b) (job sap) (is_in sap h.asked) (is_in sap h.awaited)
+        (own_from sap l.own)
         (conn_from sap q.served) q.service) (is_self sap) (h.sides.at sap)
 
   adds_some : (job : ℕ → Job) (l : EndState) (q : PeerState) → Asking job l q → AddsSome q.service.accepted
@@ -186,9 +191,15 @@ module _ (sap : ℕ) (range : IsClientSap sap) (ask : Asked) (p : PeerState) (re
     done_here : DoneBy true
     done_here y = over_at y.n.server_miu y.n.client_miu e y.phase (sym is ∙ y.job_is) y.holds
 
-    done_at : (s : ℕ) → (plan_ s).is_job ≡ true → IsDone limit table names old z plan_ (keeps limit table names old z sap conv ask.most (bytes_of ask) range laws) (rests limit table names old z sap conv ask.most (bytes_of ask) range laws) (ours limit table names old z sap conv ask.most (bytes_of ask) range laws) (unlike limit table names old z sap conv ask.most (bytes_of ask) range laws) (ranges limit table names old z sap conv ask.most (bytes_of ask) range laws) (mine limit table names old z sap conv ask.most (bytes_of ask) range laws) (idles limit table names old z sap conv ask.most (bytes_of ask) range laws) job l q h s
+    done_at : (s : ℕ) → (plan_ s).is_job ≡ true → IsDone limit table names old z plan_ (keeps limit table names old z sap conv ask.most (bytes_of ask) range laws)
+        (rests limit table names old z sap conv ask.most (bytes_of ask) range laws) (ours limit table names old z sap conv ask.most (bytes_of ask) range laws)
+        (unlike limit table names old z sap conv ask.most (bytes_of ask) range laws) (ranges limit table names old z sap conv ask.most (bytes_of ask) range laws)
+        (mine limit table names old z sap conv ask.most (bytes_of ask) range laws) (idles limit table names old z sap conv ask.most (bytes_of ask) range laws) job l q h s
     done_at s m =
-        subst (λ r. IsDone limit table names old z plan_ (keeps limit table names old z sap conv ask.most (bytes_of ask) range laws) (rests limit table names old z sap conv ask.most (bytes_of ask) range laws) (ours limit table names old z sap conv ask.most (bytes_of ask) range laws) (unlike limit table names old z sap conv ask.most (bytes_of ask) range laws) (ranges limit table names old z sap conv ask.most (bytes_of ask) range laws) (mine limit table names old z sap conv ask.most (bytes_of ask) range laws) (idles limit table names old z sap conv ask.most (bytes_of ask) range laws) job l q h r)
+        subst (λ r. IsDone limit table names old z plan_ (keeps limit table names old z sap conv ask.most (bytes_of ask) range laws)
+        (rests limit table names old z sap conv ask.most (bytes_of ask) range laws) (ours limit table names old z sap conv ask.most (bytes_of ask) range laws)
+        (unlike limit table names old z sap conv ask.most (bytes_of ask) range laws) (ranges limit table names old z sap conv ask.most (bytes_of ask) range laws)
+        (mine limit table names old z sap conv ask.most (bytes_of ask) range laws) (idles limit table names old z sap conv ask.most (bytes_of ask) range laws) job l q h r)
         (sym (only_mine limit table names old z sap conv ask.most (bytes_of ask) range laws s m)) (subst DoneBy (sym (is_self sap)) done_here)
 
     answered_so : IsAnswered sap p l q
@@ -197,7 +208,10 @@ module _ (sap : ℕ) (range : IsClientSap sap) (ask : Asked) (p : PeerState) (re
       table = h.sides.kept.offers;
       bound = h.sides.reached.0;
       others = λ s n. h.stays s (ap (λ b. (plan_by limit table names old z sap conv ask.most (bytes_of ask) range laws b).is_job) n) ∙ began s;
-      accords = accords_again limit table names old z plan_ (keeps limit table names old z sap conv ask.most (bytes_of ask) range laws) (rests limit table names old z sap conv ask.most (bytes_of ask) range laws) (ours limit table names old z sap conv ask.most (bytes_of ask) range laws) (unlike limit table names old z sap conv ask.most (bytes_of ask) range laws) (ranges limit table names old z sap conv ask.most (bytes_of ask) range laws) (mine limit table names old z sap conv ask.most (bytes_of ask) range laws) (idles limit table names old z sap conv ask.most (bytes_of ask) range laws) job l q h
+      accords = accords_again limit table names old z plan_ (keeps limit table names old z sap conv ask.most (bytes_of ask) range laws)
+          (rests limit table names old z sap conv ask.most (bytes_of ask) range laws) (ours limit table names old z sap conv ask.most (bytes_of ask) range laws)
+          (unlike limit table names old z sap conv ask.most (bytes_of ask) range laws) (ranges limit table names old z sap conv ask.most (bytes_of ask) range laws)
+          (mine limit table names old z sap conv ask.most (bytes_of ask) range laws) (idles limit table names old z sap conv ask.most (bytes_of ask) range laws) job l q h
           (λ s m. subst (λ r. is_over (job r) ≡ true) (sym (only_mine limit table names old z sap conv ask.most (bytes_of ask) range laws s m)) (ap is_over is)) done_at;
     }
 
@@ -253,23 +267,47 @@ module _ {C A : Type 0} (seen : C → CarrierView) (swaps : C → List ℕ → L
   Adds_ accepted = AddsSome sap range ask peer_state read o z_ accepted
 
   abbrev course : Course Adds_
-  course = jobs_course peer_state.service.limit peer_state.service.table peer_state.bound peer_state.service.accepted z_ (plan peer_state.service.limit peer_state.service.table peer_state.bound peer_state.service.accepted z_ sap (conv sap range ask peer_state read o z_) ask.most (bytes_of ask) range (laws sap range ask peer_state read o z_))
-      (keeps peer_state.service.limit peer_state.service.table peer_state.bound peer_state.service.accepted z_ sap (conv sap range ask peer_state read o z_) ask.most (bytes_of ask) range (laws sap range ask peer_state read o z_)) (rests peer_state.service.limit peer_state.service.table peer_state.bound peer_state.service.accepted z_ sap (conv sap range ask peer_state read o z_) ask.most (bytes_of ask) range (laws sap range ask peer_state read o z_)) (ours peer_state.service.limit peer_state.service.table peer_state.bound peer_state.service.accepted z_ sap (conv sap range ask peer_state read o z_) ask.most (bytes_of ask) range (laws sap range ask peer_state read o z_))
-      (unlike peer_state.service.limit peer_state.service.table peer_state.bound peer_state.service.accepted z_ sap (conv sap range ask peer_state read o z_) ask.most (bytes_of ask) range (laws sap range ask peer_state read o z_)) (ranges peer_state.service.limit peer_state.service.table peer_state.bound peer_state.service.accepted z_ sap (conv sap range ask peer_state read o z_) ask.most (bytes_of ask) range (laws sap range ask peer_state read o z_)) (mine peer_state.service.limit peer_state.service.table peer_state.bound peer_state.service.accepted z_ sap (conv sap range ask peer_state read o z_) ask.most (bytes_of ask) range (laws sap range ask peer_state read o z_))
-      (idles peer_state.service.limit peer_state.service.table peer_state.bound peer_state.service.accepted z_ sap (conv sap range ask peer_state read o z_) ask.most (bytes_of ask) range (laws sap range ask peer_state read o z_)) Adds_ (adds_some sap range ask peer_state read o z_)
+  course = jobs_course peer_state.service.limit peer_state.service.table peer_state.bound peer_state.service.accepted z_
+      (plan peer_state.service.limit peer_state.service.table peer_state.bound peer_state.service.accepted z_ sap (conv sap range ask peer_state read o z_) ask.most (bytes_of ask) range
+      (laws sap range ask peer_state read o z_))
+      (keeps peer_state.service.limit peer_state.service.table peer_state.bound peer_state.service.accepted z_ sap (conv sap range ask peer_state read o z_) ask.most (bytes_of ask) range
+      (laws sap range ask peer_state read o z_)) (rests peer_state.service.limit peer_state.service.table peer_state.bound peer_state.service.accepted z_ sap
+      (conv sap range ask peer_state read o z_) ask.most (bytes_of ask) range (laws sap range ask peer_state read o z_))
+      (ours peer_state.service.limit peer_state.service.table peer_state.bound peer_state.service.accepted z_ sap (conv sap range ask peer_state read o z_) ask.most (bytes_of ask) range
+      (laws sap range ask peer_state read o z_))
+      (unlike peer_state.service.limit peer_state.service.table peer_state.bound peer_state.service.accepted z_ sap (conv sap range ask peer_state read o z_) ask.most (bytes_of ask) range
+      (laws sap range ask peer_state read o z_)) (ranges peer_state.service.limit peer_state.service.table peer_state.bound peer_state.service.accepted z_ sap
+      (conv sap range ask peer_state read o z_) ask.most (bytes_of ask) range (laws sap range ask peer_state read o z_))
+      (mine peer_state.service.limit peer_state.service.table peer_state.bound peer_state.service.accepted z_ sap (conv sap range ask peer_state read o z_) ask.most (bytes_of ask) range
+      (laws sap range ask peer_state read o z_))
+      (idles peer_state.service.limit peer_state.service.table peer_state.bound peer_state.service.accepted z_ sap (conv sap range ask peer_state read o z_) ask.most (bytes_of ask) range
+      (laws sap range ask peer_state read o z_)) Adds_ (adds_some sap range ask peer_state read o z_)
 
   abbrev conv_ : ℕ → ℕ → Conversation
   conv_ = conv sap range ask peer_state read o z_
 
   begins_so : course.At from peer_state
   begins_so = (
-    jobs peer_state.service.limit peer_state.service.table peer_state.bound peer_state.service.accepted z_ sap conv_ ask.most (bytes_of ask) range (laws sap range ask peer_state read o z_) (Begins ask.most (bytes_of ask)),
-    (job_here peer_state.service.limit peer_state.service.table peer_state.bound peer_state.service.accepted z_ sap conv_ ask.most (bytes_of ask) range (laws sap range ask peer_state read o z_) (Begins ask.most (bytes_of ask)), tt),
+    jobs peer_state.service.limit peer_state.service.table peer_state.bound peer_state.service.accepted z_ sap conv_ ask.most (bytes_of ask) range (laws sap range ask peer_state read o z_)
+        (Begins ask.most (bytes_of ask)),
+    (
+      job_here peer_state.service.limit peer_state.service.table peer_state.bound peer_state.service.accepted z_ sap conv_ ask.most (bytes_of ask) range (laws sap range ask peer_state read o z_)
+          (Begins ask.most (bytes_of ask)),
+      tt,
+    ),
     refl,
     refl,
     accord_begins client peer_state a sap range conv_ ask.most (bytes_of ask) (laws sap range ask peer_state read o z_) (starts sap range ask peer_state read o z_),
-    few_at_first peer_state.service.limit peer_state.service.table peer_state.bound peer_state.service.accepted z_ (plan peer_state.service.limit peer_state.service.table peer_state.bound peer_state.service.accepted z_ sap conv_ ask.most (bytes_of ask) range (laws sap range ask peer_state read o z_)) (keeps peer_state.service.limit peer_state.service.table peer_state.bound peer_state.service.accepted z_ sap conv_ ask.most (bytes_of ask) range (laws sap range ask peer_state read o z_)) (rests peer_state.service.limit peer_state.service.table peer_state.bound peer_state.service.accepted z_ sap conv_ ask.most (bytes_of ask) range (laws sap range ask peer_state read o z_)) (ours peer_state.service.limit peer_state.service.table peer_state.bound peer_state.service.accepted z_ sap conv_ ask.most (bytes_of ask) range (laws sap range ask peer_state read o z_)) (unlike peer_state.service.limit peer_state.service.table peer_state.bound peer_state.service.accepted z_ sap conv_ ask.most (bytes_of ask) range (laws sap range ask peer_state read o z_)) (ranges peer_state.service.limit peer_state.service.table peer_state.bound peer_state.service.accepted z_ sap conv_ ask.most (bytes_of ask) range (laws sap range ask peer_state read o z_)) (mine peer_state.service.limit peer_state.service.table peer_state.bound peer_state.service.accepted z_ sap conv_ ask.most (bytes_of ask) range (laws sap range ask peer_state read o z_))
-        sap (is_ours peer_state.service.limit peer_state.service.table peer_state.bound peer_state.service.accepted z_ sap conv_ ask.most (bytes_of ask) range (laws sap range ask peer_state read o z_)) (connected client sap) peer_state,
+    few_at_first peer_state.service.limit peer_state.service.table peer_state.bound peer_state.service.accepted z_
+        (plan peer_state.service.limit peer_state.service.table peer_state.bound peer_state.service.accepted z_ sap conv_ ask.most (bytes_of ask) range (laws sap range ask peer_state read o z_))
+        (keeps peer_state.service.limit peer_state.service.table peer_state.bound peer_state.service.accepted z_ sap conv_ ask.most (bytes_of ask) range (laws sap range ask peer_state read o z_))
+        (rests peer_state.service.limit peer_state.service.table peer_state.bound peer_state.service.accepted z_ sap conv_ ask.most (bytes_of ask) range (laws sap range ask peer_state read o z_))
+        (ours peer_state.service.limit peer_state.service.table peer_state.bound peer_state.service.accepted z_ sap conv_ ask.most (bytes_of ask) range (laws sap range ask peer_state read o z_))
+        (unlike peer_state.service.limit peer_state.service.table peer_state.bound peer_state.service.accepted z_ sap conv_ ask.most (bytes_of ask) range (laws sap range ask peer_state read o z_))
+        (ranges peer_state.service.limit peer_state.service.table peer_state.bound peer_state.service.accepted z_ sap conv_ ask.most (bytes_of ask) range (laws sap range ask peer_state read o z_))
+        (mine peer_state.service.limit peer_state.service.table peer_state.bound peer_state.service.accepted z_ sap conv_ ask.most (bytes_of ask) range (laws sap range ask peer_state read o z_))
+        sap (is_ours peer_state.service.limit peer_state.service.table peer_state.bound peer_state.service.accepted z_ sap conv_ ask.most (bytes_of ask) range
+        (laws sap range ask peer_state read o z_)) (connected client sap) peer_state,
   )
 
   came_to : (to : Step) (now : C) (after : A) → Talks seen swaps steps stops numbers from link far to now after → course.At to (view after)

@@ -11,13 +11,15 @@ use Rattle.snep_core.specs.Calling.{FailsAt, RunFailsAt, RunsTo, Talks, fault_of
 use Rattle.snep_core.specs.Jobs.{Asks, Begins, Closes, Collects, Done, Ending, Job, Looks, Over, Refused, Sap, Sends, Value, Waits}
 use Rattle.snep_core.specs.RepliesLeft.{IsBelowCountEnd, IsUnderWay, task_saps}
 use Rattle.snep_core.specs.Server.{Received}
-use Rattle.snep_core.specs.Slots.{AllFit, NoMessage, NoneStaged, Rejected, Slot, Staged, Success, all_puts, answered_by, has_staged, is_staged_at, job_from, marked, noted, slot_at, slot_count, some_staged}
+use Rattle.snep_core.specs.Slots.{AllFit, NoMessage, NoneStaged, Rejected, Slot, Staged, Success, all_puts, answered_by, has_staged, is_staged_at, job_from, marked, noted, slot_at, slot_count}
+use Rattle.snep_core.specs.Slots.{some_staged}
 use Rattle.snep_core.specs.Talk.{AllReady, EndState, Ends, OnSap, Puts, Step, TaskOn, all_opening, all_over, begins_all, beginning, begun, client_sap, opening, put_bytes, sap_of_slot, saps, with_job}
 use Rattle.snep_core.proofs.jobs.CallsEnd.{calls_begin}
 use Rattle.snep_core.proofs.connections.Connects.{connect_all}
 use Rattle.snep_core.proofs.sessions.Following.{follow_saps, told_follow}
 use Rattle.snep_core.proofs.accord.PutsRun.{not_over, put_jobs, puts_ended, puts_failed, puts_saps}
-use Rattle.snep_core.proofs.jobs.SlotPuts.{AllServe, ArePuts, NoneOver, all_put, fits_there, message_of, no_puts, none_left, none_waits, noted_not, noted_there, puts_are, puts_distinct, puts_few, puts_there, puts_unlike, slot_of, slot_there, some_puts, staged_range}
+use Rattle.snep_core.proofs.jobs.SlotPuts.{AllServe, ArePuts, NoneOver, all_put, fits_there, message_of, no_puts, none_left, none_waits, noted_not, noted_there, puts_are, puts_distinct, puts_few}
+use Rattle.snep_core.proofs.jobs.SlotPuts.{puts_there, puts_unlike, slot_of, slot_there, some_puts, staged_range}
 use Rattle.snep_core.proofs.jobs.Talking.{rests_at, talks_none}
 
 -- what puts queue, and their jobs

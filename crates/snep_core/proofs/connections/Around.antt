@@ -30,7 +30,13 @@ module _ {A : Type 0} (f : ℕ → Option A) where
     Ahead n s = (s < sap_count) × (((s ≤ one) × (one < s + n)) ⊎ ((one < s) × (one + sap_count < s + n)))
 
     next_ahead : (n s : ℕ) → one < sap_count → (s == one) ≡ false → Ahead (suc n) s → Ahead n (sap_after s)
-    next_ahead n s low t (h, inl (a, b)) = let k = not_equal s one t in ((let z : (s + 1) % 64 < 64 = omega arith in z), inl ((let d : s ≤ one = a in let c : s < one = grind arith in let e : (s + 1) % 64 ≡ s + 1 = omega arith in omega arith), (let c : s < one = grind arith in let e : (s + 1) % 64 ≡ s + 1 = omega arith in omega arith)))
+    next_ahead n s low t (h, inl (a, b)) = let k = not_equal s one t in (
+      (let z : (s + 1) % 64 < 64 = omega arith in z),
+      inl (
+        (let d : s ≤ one = a in let c : s < one = grind arith in let e : (s + 1) % 64 ≡ s + 1 = omega arith in omega arith),
+        (let c : s < one = grind arith in let e : (s + 1) % 64 ≡ s + 1 = omega arith in omega arith),
+      ),
+    )
     next_ahead n s low t (h, inr (a, b)) = by_end (cases_lt (s + 1) 64)
       where
         by_end : ((s + 1 < 64) ⊎ (64 ≤ s + 1)) → Ahead n (sap_after s)

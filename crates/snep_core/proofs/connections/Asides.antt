@@ -15,7 +15,8 @@ use Rattle.snep_core.proofs.connections.Carrying.{HopSo}
 use Rattle.snep_core.proofs.accord.Ends.{sizes_of}
 use Rattle.snep_core.proofs.connections.OnConnection.{conn_at}
 use Rattle.snep_core.proofs.connections.Owned.{emptied_none}
-use Rattle.snep_core.proofs.connections.Pairs.{ack_over, bare_acks, bare_informs, client_ack, client_acks, client_gave, client_hears, client_quiet, client_settled, informs_is, acks_is, server_ack, server_acks, server_gave, server_hears, server_quiet, server_settled, unit_over}
+use Rattle.snep_core.proofs.connections.Pairs.{ack_over, bare_acks, bare_informs, client_ack, client_acks, client_gave, client_hears, client_quiet, client_settled, informs_is, acks_is, server_ack}
+use Rattle.snep_core.proofs.connections.Pairs.{server_acks, server_gave, server_hears, server_quiet, server_settled, unit_over}
 use Rattle.snep_core.proofs.connections.Places.{below, paired_client_acks, paired_server_acks}
 use Rattle.snep_core.proofs.connections.Sides.{Place, Sides, Sizes, leaves_same, sides_on, some_still}
 
@@ -99,7 +100,8 @@ module _ (Found : List Lookup → Type 0) (there : ℕ → Bool) (names : List B
     quiet_informs : (sap : ℕ) → Out (informs silent l sap)
     quiet_informs sap = go (splits sap _ _ (at_ sap))
       where
-        go : ((IsStill (own_from sap l.own) × (conn_from sap p.served ≡ None)) ⊎ (Quiet s sap (own_from sap l.own) (conn_from sap p.served) × ((o : Option OwnState) (d : Option ConnState) → Quiet s sap o d → At sap o d s)))
+        go : ((IsStill (own_from sap l.own) × (conn_from sap p.served ≡ None)) ⊎ (Quiet s sap (own_from sap l.own) (conn_from sap p.served)
+            × ((o : Option OwnState) (d : Option ConnState) → Quiet s sap o d → At sap o d s)))
             → Out (informs silent l sap)
         go (inl y) = subst Out (sym (informs_is l none_ sap (own_from sap l.own) refl ∙ (y.0 l).0)) tt
         go (inr (q, back)) = subst Out (sym (client_quiet l none_ sap q.n [] q.own)) tt
@@ -118,7 +120,8 @@ module _ (Found : List Lookup → Type 0) (there : ℕ → Bool) (names : List B
                   (on_ sap q back (client_acks q.n) (paired_client_acks q.n 0 q.paired) q.settled (Some sap) p.last (low sap q.range) h.sides.peer_fair.last),
             )
 
-        go : ((IsStill (own_from sap l.own) × (conn_from sap p.served ≡ None)) ⊎ (Quiet s sap (own_from sap l.own) (conn_from sap p.served) × ((o : Option OwnState) (d : Option ConnState) → Quiet s sap o d → At sap o d s)))
+        go : ((IsStill (own_from sap l.own) × (conn_from sap p.served ≡ None)) ⊎ (Quiet s sap (own_from sap l.own) (conn_from sap p.served)
+            × ((o : Option OwnState) (d : Option ConnState) → Quiet s sap o d → At sap o d s)))
             → Out (acknowledges l sap)
         go (inl y) = subst Out (sym (acks_is l none_ sap (own_from sap l.own) refl ∙ (y.0 l).1)) tt
         go (inr (q, back)) = by_told q back q.n.told refl
@@ -135,7 +138,8 @@ module _ (Found : List Lookup → Type 0) (there : ℕ → Bool) (names : List B
     idle_informs : (sap : ℕ) → In (informs serving p sap)
     idle_informs sap = go (splits sap _ _ (at_ sap))
       where
-        go : ((IsStill (own_from sap l.own) × (conn_from sap p.served ≡ None)) ⊎ (Quiet s sap (own_from sap l.own) (conn_from sap p.served) × ((o : Option OwnState) (d : Option ConnState) → Quiet s sap o d → At sap o d s)))
+        go : ((IsStill (own_from sap l.own) × (conn_from sap p.served ≡ None)) ⊎ (Quiet s sap (own_from sap l.own) (conn_from sap p.served)
+            × ((o : Option OwnState) (d : Option ConnState) → Quiet s sap o d → At sap o d s)))
             → In (informs serving p sap)
         go (inl y) = subst In (sym (bare_informs serving p bare_ sap y.1)) tt
         go (inr (q, back)) = subst In (sym (server_quiet serving p bare_ sap q.n q.served (inl (nothing_due sap q)))) tt
@@ -154,7 +158,8 @@ module _ (Found : List Lookup → Type 0) (there : ℕ → Bool) (names : List B
                   (on_ sap q back (server_acks q.n) (paired_server_acks q.n 0 q.paired) refl l.last (Some sap) h.sides.client_fair.last (low sap q.range)),
             )
 
-        go : ((IsStill (own_from sap l.own) × (conn_from sap p.served ≡ None)) ⊎ (Quiet s sap (own_from sap l.own) (conn_from sap p.served) × ((o : Option OwnState) (d : Option ConnState) → Quiet s sap o d → At sap o d s)))
+        go : ((IsStill (own_from sap l.own) × (conn_from sap p.served ≡ None)) ⊎ (Quiet s sap (own_from sap l.own) (conn_from sap p.served)
+            × ((o : Option OwnState) (d : Option ConnState) → Quiet s sap o d → At sap o d s)))
             → In (acknowledges p sap)
         go (inl y) = subst In (sym (bare_acks serving p bare_ sap y.1)) tt
         go (inr (q, back)) = by_asked q back q.n.asked refl

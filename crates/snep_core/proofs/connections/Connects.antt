@@ -112,7 +112,6 @@ pub record Connects (base : EndState) (ss : List ℕ) (l to : EndState) : Type 0
   pub other : (t : ℕ) → is_in t (wanted base ss) ≡ false → own_from t to.own ≡ own_from t l.own
 
 module _ (base : EndState) (s : ℕ) (ss : List ℕ) (l : EndState) (unlike : is_in s ss ≡ false) where
-
   record Joined (w : List ℕ) (to : EndState) : Type 0 where
     all_else : to ≡ record l { queue = to.queue; own = to.own }
     queue : to.queue ≡ l.queue ++ map (connect_by l.miu l.window) w

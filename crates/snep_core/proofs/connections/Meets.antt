@@ -21,8 +21,11 @@ use Rattle.snep_core.proofs.connections.Around.{found_of}
 use Rattle.snep_core.proofs.connections.Carrying.{HopSo, IsShort}
 use Rattle.snep_core.proofs.requests.Conversations.{Conversation, Converses, Tells}
 use Rattle.snep_core.proofs.connections.OnConnection.{conn_at}
-use Rattle.snep_core.proofs.connections.Pairs.{apart_acks, apart_informs, asks, bare_acks, bare_informs, client_ack, client_acks, client_gave, client_hears, client_quiet, client_settled, client_takes, client_took, client_unit, server_ack, server_acks, server_gave, server_hears, server_quiet, server_settled, server_takes, server_took, server_unit, tells, waiting_acks, waiting_informs}
-use Rattle.snep_core.proofs.connections.Places.{Plan, StandsBy, Talking, asks_short, client_ack_short, few_asked, few_told, first_numbers, fits, server_ack_short, stands_left, talks_asks, talks_client_acks, talks_server_acks, talks_tells, tells_short}
+use Rattle.snep_core.proofs.connections.Pairs.{apart_acks, apart_informs, asks, bare_acks, bare_informs, client_ack, client_acks, client_gave, client_hears, client_quiet, client_settled, client_takes}
+use Rattle.snep_core.proofs.connections.Pairs.{client_took, client_unit, server_ack, server_acks, server_gave, server_hears, server_quiet, server_settled, server_takes, server_took, server_unit}
+use Rattle.snep_core.proofs.connections.Pairs.{tells, waiting_acks, waiting_informs}
+use Rattle.snep_core.proofs.connections.Places.{Plan, StandsBy, Talking, asks_short, client_ack_short, few_asked, few_told, first_numbers, fits, server_ack_short, stands_left, talks_asks}
+use Rattle.snep_core.proofs.connections.Places.{talks_client_acks, talks_server_acks, talks_tells, tells_short}
 use Rattle.snep_core.proofs.connections.Sides.{Leaves, Place, Sides, Sizes, leaves_brought, leaves_same, leaves_with, sides_on, some_still}
 
 -- no two of these SAPs are the same

@@ -1,5 +1,6 @@
 -- One PDU on the connection from a SAP, between a client and a peer: what the one gives, and what the other makes of it.
-use Rattle.std.proofs.Common.{◌≡◌, ◌<◌, ◌≤◌, ◌⊎◌, nat_lt, ℕ, ◌+◌, ◌-◌, ◌%◌, ◌==◌, Bool, true, false, List, [], ◌∷◌, ◌++◌, length, drop, Option, Some, None, refl, sym, ◌∙◌, ap, subst, arith, inl, inr, if◌then◌else◌, length-append}
+use Rattle.std.proofs.Common.{◌≡◌, ◌<◌, ◌≤◌, ◌⊎◌, nat_lt, ℕ, ◌+◌, ◌-◌, ◌%◌, ◌==◌, Bool, true, false, List, [], ◌∷◌, ◌++◌, length, drop, Option, Some, None, refl, sym, ◌∙◌, ap, subst, arith, inl, inr}
+use Rattle.std.proofs.Common.{if◌then◌else◌, length-append}
 use Rattle.std.proofs.lemmas.Bool.Decides.{nat_tests}
 use Rattle.llcp_pdu.specs.declared.part.Part.{Part}
 use Rattle.llcp_pdu.specs.declared.part.Part.TheVariants.{Info, Rr}
@@ -132,7 +133,10 @@ module _ (l : EndState) (none : l.served ≡ []) (sap : ℕ) where
     client_ack queue e v vs t =
         acks_is (Some (conn_at sap n queue units)) e
         ∙ subst (λ b. acknowledges_own l (Some (opened sap server_sap (record (client_conn sap n queue) { owed = b }) units))
-        ≡ Some (record { llc = client_gave l (opened sap server_sap (record (client_conn sap (client_acks n) queue) { vr = (n.told_sa + length n.told) % modulus }) units); part = client_ack_part sap n }))
+        ≡ Some (record {
+          llc = client_gave l (opened sap server_sap (record (client_conn sap (client_acks n) queue) { vr = (n.told_sa + length n.told) % modulus }) units);
+          part = client_ack_part sap n;
+        }))
         (sym (ap is_some_of t)) refl
         ∙ ap (λ vr. Some (record { llc = client_gave l (opened sap server_sap (record (client_conn sap (client_acks n) queue) { vr = vr }) units); part = client_ack_part sap n }))
         (sym (again (n.told_sa + length n.told)))

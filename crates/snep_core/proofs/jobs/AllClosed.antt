@@ -17,7 +17,13 @@ use Rattle.snep_core.proofs.jobs.Talking.{fails_by, talks_rests}
 
 pub saps_distinct : IsDistinct eqb client_saps
 unfolding IsDistinct
-saps_distinct = ((refl, (refl, (refl, (refl, (refl, (refl, (refl, tt))))))), ((refl, (refl, (refl, (refl, (refl, (refl, tt)))))), ((refl, (refl, (refl, (refl, (refl, tt))))), ((refl, (refl, (refl, (refl, tt)))), ((refl, (refl, (refl, tt))), ((refl, (refl, tt)), ((refl, tt), (tt, tt))))))))
+saps_distinct = (
+  (refl, (refl, (refl, (refl, (refl, (refl, (refl, tt))))))),
+  (
+    (refl, (refl, (refl, (refl, (refl, (refl, tt)))))),
+    ((refl, (refl, (refl, (refl, (refl, tt))))), ((refl, (refl, (refl, (refl, tt)))), ((refl, (refl, (refl, tt))), ((refl, (refl, tt)), ((refl, tt), (tt, tt)))))),
+  ),
+)
 
 abbrev AllLeave : List OnSap → Type 0
 AllLeave [] = Unit {0}

@@ -1,5 +1,6 @@
 -- What a reply of a peer gives a client's jobs, PDU by PDU.
-use Rattle.std.proofs.Common.{◌≡◌, ◌<◌, ◌≤◌, ◌⊎◌, ℕ, ◌+◌, ◌%◌, ◌==◌, ◌&&◌, ◌||◌, not, Bool, true, false, List, [], ◌∷◌, ◌++◌, length, Option, Some, None, refl, sym, ◌∙◌, ap, subst, inl, inr, arith, if◌then◌else◌}
+use Rattle.std.proofs.Common.{◌≡◌, ◌<◌, ◌≤◌, ◌⊎◌, ℕ, ◌+◌, ◌%◌, ◌==◌, ◌&&◌, ◌||◌, not, Bool, true, false, List, [], ◌∷◌, ◌++◌, length, Option, Some, None, refl, sym, ◌∙◌, ap, subst, inl, inr, arith}
+use Rattle.std.proofs.Common.{if◌then◌else◌}
 use Rattle.std.proofs.lemmas.Bool.{eqb-true}
 use Rattle.llcp_conn.specs.Conn.{ConnState, count_end}
 use Rattle.llcp_link.specs.State.{Bound, OwnState, conn_from, own_from, with_own}
@@ -170,7 +171,8 @@ module _ (limit : ℕ) (table : List Offer) (names : List Bound) (old : List Rec
         first_here x m =
             let was : own_from s mid.own ≡ Some before = sym (x.same s m) ∙ t.own in
             let some_ : 0 < length t.n.asked = subst (λ w. 0 < length w) (sym e) (omega arith) in
-            let few = few_asked limit table old z s (plan s) (job s) t.range t.n p.service (laws_of limit table names old z plan job keeps l p h s t) t.phase t.paired t.holds t.job_is t.serves t.settled in
+            let few = few_asked limit table old z s (plan s) (job s) t.range t.n p.service (laws_of limit table names old z plan job keeps l p h s t) t.phase t.paired t.holds t.job_is t.serves
+            t.settled in
             record {
               sap = s;
               is_mine = m;

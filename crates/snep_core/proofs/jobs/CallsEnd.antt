@@ -18,7 +18,9 @@ use Rattle.llcp_link.proofs.Ranged.{either}
 use Rattle.llcp_link.proofs.Submitted.{own_with}
 use Rattle.llcp_link.proofs.Waning.{Wanes, is_of, given_wanes, pending_wanes, taken_wanes}
 use Rattle.snep_core.specs.Jobs.{Job, Begins, Closes, has_byte}
-use Rattle.snep_core.specs.Talk.{AllReady, EndState, Ends, Finds, Gets, GivenUp, GivesUp, Leaves, Puts, Task, TaskOn, all_opening, begun, connected, get_bytes, opening, own_of, put_bytes, server_sap, Goes, OnSap, Ready, Step, ComesTo, Working, all_emptied, all_heard, all_over, all_readied, all_well, as_they_came, emptied, emptied_by, gave_any, gave_something, goes_on, heard, heard_with, idle_after, most_idle, given_up, leaving, readied, ready, ready_so, replied, saps, settled, silent, with_job, call_behind, took, units_of}
+use Rattle.snep_core.specs.Talk.{AllReady, EndState, Ends, Finds, Gets, GivenUp, GivesUp, Leaves, Puts, Task, TaskOn, all_opening, begun, connected, get_bytes, opening, own_of, put_bytes, server_sap}
+use Rattle.snep_core.specs.Talk.{Goes, OnSap, Ready, Step, ComesTo, Working, all_emptied, all_heard, all_over, all_readied, all_well, as_they_came, emptied, emptied_by, gave_any, gave_something}
+use Rattle.snep_core.specs.Talk.{goes_on, heard, heard_with, idle_after, most_idle, given_up, leaving, readied, ready, ready_so, replied, saps, settled, silent, with_job, call_behind, took, units_of}
 use Rattle.snep_core.specs.RepliesLeft.{CallsBegin, CallsEnd, IsBelowCountEnd, IsUnderWay, RepliesFall, all_to_come, job_left, replies_left, task_saps, to_come}
 use Rattle.snep_core.specs.private.Waning.{LessensTo, Putting}
 use Rattle.snep_core.proofs.jobs.Falling.{both_lessen, gave_lessens, turn_falls}
@@ -258,7 +260,8 @@ calls_end w ns (Stepped out reply ∷ did) to way t = go (λ next f u. calls_end
     later : List ℕ
     later = later_numbers ns
 
-    go : ((next : Working) → IsUnderWay next → ComesTo later (Goes next) did to → length did ≤ replies_left next) → (from : Step) → replied n w reply ≡ from → ComesTo later from did to → length (Stepped out reply ∷ did) ≤ replies_left w
+    go : ((next : Working) → IsUnderWay next → ComesTo later (Goes next) did to → length did ≤ replies_left next) → (from : Step) → replied n w reply ≡ from → ComesTo later from did to
+        → length (Stepped out reply ∷ did) ≤ replies_left w
     go rest (Goes next) e u = (let f = replies_fall w n reply next way e in let more = rest next f.0 u in omega arith)
     go rest (Ends xs l) e u = (let z = ended xs l later did to u in let v = some_left w way in omega arith)
     go rest (GivesUp l) e u = (let z = gave_up l later did to u in let v = some_left w way in omega arith)

@@ -15,7 +15,6 @@ use Rattle.snep_core.specs.Talk.{EndState, OnSap, silent}
 module _ {C A : Type 0} (seen : C → CarrierView) (swaps : C → List ℕ → List FarStep → C → Type 0) (steps : A → List ℕ → List ℕ → A → Type 0)
     (stops : A → List ℕ → A → Type 0) (link : C) (far : A) (now : C) (after : A) (llc mid : EndState) (count : ℕ) (out : List ℕ)
     (g : Gives silent count llc out mid) where
-
   pub cut_failed : {V : Type 0} (new : EndState) → new ≡ mid → (e : SnepFault) (why : LinkEnd) (r : Result V LinkEnd) → r ≡ Err why → e ≡ fault_of why.cause
       → ((seen link).over ≡ None → SwapFailed steps stops (seen link) (seen now) out why far after)
       → ((c : EndCause) → (seen link).over ≡ Some c

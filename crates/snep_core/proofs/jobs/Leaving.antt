@@ -5,7 +5,8 @@ use Rattle.llcp_conn.specs.Conn.{count_end}
 use Rattle.llcp_link.specs.Asking.{acked_of, is_open_by}
 use Rattle.snep_core.specs.Jobs.{Done, Job, Over}
 use Rattle.snep_core.specs.RepliesLeft.{IsBelowCountEnd, task_saps}
-use Rattle.snep_core.specs.Talk.{AllReady, EndState, Ends, Leaves, OnSap, Ready, all_done, all_opening, all_over, beginning, begins_all, begun, leave_from, leaving, opening, own_of, ready_so, some_open, with_job}
+use Rattle.snep_core.specs.Talk.{AllReady, EndState, Ends, Leaves, OnSap, Ready, all_done, all_opening, all_over, beginning, begins_all, begun, leave_from, leaving, opening, own_of, ready_so}
+use Rattle.snep_core.specs.Talk.{some_open, with_job}
 use Rattle.snep_core.proofs.accord.AllJobs.{all_so, behind}
 use Rattle.snep_core.proofs.jobs.CallsEnd.{NotAmong, one_opens}
 

@@ -12,7 +12,8 @@ use Rattle.snep_core.specs.Calling.{FailsBy, fault_of, gives_up}
 use Rattle.snep_core.specs.Jobs.{Ending, Job, Over, has_byte}
 use Rattle.snep_core.specs.Server.{Received, ServerState, serving}
 use Rattle.snep_core.specs.declared.silent.NoService.{NoService}
-use Rattle.snep_core.specs.Talk.{EndState, Ends, GivesUp, Goes, Ready, Step, Working, alone, client_sap, emptied, gave_something, heard, own_of, payload, readied, ready, ready_so, replied, silent, took, units_of}
+use Rattle.snep_core.specs.Talk.{EndState, Ends, GivesUp, Goes, Ready, Step, Working, alone, client_sap, emptied, gave_something, heard, own_of, payload, readied, ready, ready_so, replied, silent}
+use Rattle.snep_core.specs.Talk.{took, units_of}
 use Rattle.snep_core.proofs.connections.Carrying.{AtFronts, FirstSo, HopSo, at_front, handed, handed_first}
 use Rattle.snep_core.proofs.jobs.Courses.{Course, IsSafe, breaks_off, came}
 use Rattle.snep_core.proofs.jobs.Talking.{took_some}

@@ -1,5 +1,6 @@
 -- Each exchange of a client and a peer gives a job something, or leaves fewer acknowledgements to be given.
-use Rattle.std.proofs.Common.{◌≡◌, ◌<◌, ◌≤◌, ◌⊎◌, nat_lt, ℕ, ◌+◌, ◌%◌, ◌==◌, ◌&&◌, not, Bool, true, false, List, [], ◌∷◌, ◌++◌, length, map, Some, None, IfSome, refl, sym, ◌∙◌, ap, subst, inl, inr, arith}
+use Rattle.std.proofs.Common.{◌≡◌, ◌<◌, ◌≤◌, ◌⊎◌, nat_lt, ℕ, ◌+◌, ◌%◌, ◌==◌, ◌&&◌, not, Bool, true, false, List, [], ◌∷◌, ◌++◌, length, map, Some, None, IfSome, refl, sym, ◌∙◌, ap, subst, inl, inr}
+use Rattle.std.proofs.Common.{arith}
 use Rattle.std.proofs.lemmas.Bool.{eqb-true, lt-ltb}
 use Rattle.std.proofs.lemmas.Bool.Decides.{nat_tests}
 use Rattle.llcp_conn.specs.Conn.{ConnState, IsSap}
@@ -114,7 +115,8 @@ module _ (limit : ℕ) (table : List Offer) (names : List Bound) (old : List Rec
       on_asks : OnAsks limit table names old z plan job keeps l p h Pressed
       on_asks s t free u queue e = record {
         meets = asks_meets limit table names old z plan job keeps l p h s t free u queue e;
-        left = (let d = debts_left s (conn_at s (asks t.n u) queue ((conv_of limit table names old z plan job keeps l p h s t).units_at t.phase)) _ l.own t.own refl (λ k. absurd cc) in omega (arith, d, left));
+        left = (let d = debts_left s (conn_at s (asks t.n u) queue ((conv_of limit table names old z plan job keeps l p h s t).units_at t.phase)) _ l.own t.own refl (λ k. absurd cc) in
+            omega (arith, d, left));
         others = (let d = others_left mine s (server_conn s (asks t.n u)) _ p.served t.served refl (λ m k. absurd (unit_mine s t u queue e m)) in omega (arith, d, others));
         pressed = inr (asks_come s t u);
       }
@@ -122,7 +124,8 @@ module _ (limit : ℕ) (table : List Offer) (names : List Bound) (old : List Rec
       on_acks : OnAcks limit table names old z plan job keeps l p h Pressed
       on_acks s t free v vs e =
           let c = conv_of limit table names old z plan job keeps l p h s t in
-          let d = debts_fewer s (conn_at s (client_acks t.n) (c.queue_at t.phase) (c.units_at t.phase)) _ l.own t.own refl refl (some_owed t.n.told v vs e) t.range.0 (let r = t.range.1 in omega arith) in record {
+          let d = debts_fewer s (conn_at s (client_acks t.n) (c.queue_at t.phase) (c.units_at t.phase)) _ l.own t.own refl refl (some_owed t.n.told v vs e) t.range.0
+          (let r = t.range.1 in omega arith) in record {
             meets = acks_meets limit table names old z plan job keeps l p h s t free;
             left = omega (arith, d, left);
             others = (let i = others_left mine s (server_conn s (client_acks t.n)) _ p.served t.served refl (λ m k. k) in omega (arith, i, others));
@@ -205,7 +208,8 @@ module _ (limit : ℕ) (table : List Offer) (names : List Bound) (old : List Rec
               let i = server_unit serving p x.meets.sides.peer_own x.sap t.n t.served y.unit y.due room in
               let k = away.quiet x.sap low in (let n = sym k ∙ i in cc)
 
-          by_told : (t : R_) → x.sap < 64 → (d_ t).queue_at t.phase ≡ [] → (t.n.asked ≡ [] → HasUnit limit table names old z plan job keeps l p x.meets x.sap t) → (told : List (List ℕ)) → t.n.told ≡ told → ⊥
+          by_told : (t : R_) → x.sap < 64 → (d_ t).queue_at t.phase ≡ [] → (t.n.asked ≡ [] → HasUnit limit table names old z plan job keeps l p x.meets x.sap t) → (told : List (List ℕ))
+              → t.n.told ≡ told → ⊥
           by_told t low q busy [] a = by_asked t low a busy t.n.asked refl
           by_told t low q busy (v ∷ vs) a =
               let i = client_ack l x.meets.sides.client_served x.sap t.n ((d_ t).units_at t.phase) ((d_ t).queue_at t.phase) t.own v vs a in

@@ -1,12 +1,14 @@
 -- The messages that wait in slots, as puts from SAPs in ascending order; and slots, as the jobs of their SAPs come to something.
-use Rattle.std.proofs.Common.{◌≡◌, ◌<◌, ◌≤◌, ℕ, zero, suc, ◌+◌, ◌==◌, ◌&&◌, ◌||◌, eqb, Bool, true, false, List, [], ◌∷◌, length, set, Option, Some, None, refl, sym, ◌∙◌, ap, subst, arith, if◌then◌else◌}
+use Rattle.std.proofs.Common.{◌≡◌, ◌<◌, ◌≤◌, ℕ, zero, suc, ◌+◌, ◌==◌, ◌&&◌, ◌||◌, eqb, Bool, true, false, List, [], ◌∷◌, length, set, Option, Some, None, refl, sym, ◌∙◌, ap, subst, arith}
+use Rattle.std.proofs.Common.{if◌then◌else◌}
 use Rattle.std.proofs.lemmas.Bool.{eqb-true}
 use Rattle.std.proofs.lemmas.Bool.Decides.{nat_tests}
 use Rattle.std.specs.List.{IsDistinct}
 use Rattle.snep_core.specs.Accord.{is_in}
 use Rattle.snep_core.specs.Jobs.{Asks, Begins, Closes, Collects, Done, Ending, Job, Looks, Over, Refused, Sap, Sends, Value, Waits}
 use Rattle.snep_core.specs.RepliesLeft.{task_saps}
-use Rattle.snep_core.specs.Slots.{AllFit, FitsSlot, NoMessage, NoneStaged, Rejected, Slot, Staged, Success, answered_by, dropped, dropped_one, has_staged, job_from, marked, most_staged, noted_from, put_with, puts_from, slot_at, some_staged}
+use Rattle.snep_core.specs.Slots.{AllFit, FitsSlot, NoMessage, NoneStaged, Rejected, Slot, Staged, Success, answered_by, dropped, dropped_one, has_staged, job_from, marked, most_staged, noted_from}
+use Rattle.snep_core.specs.Slots.{put_with, puts_from, slot_at, some_staged}
 use Rattle.snep_core.specs.Talk.{OnSap, Puts, TaskOn, all_over, is_over, saps}
 use Rattle.snep_core.specs.private.Waning.{Putting, Serves}
 use Rattle.snep_core.proofs.jobs.CallsEnd.{NotAmong}
@@ -325,7 +327,8 @@ put_answered : (jobs : List OnSap) (m : List ℕ) (s : ℕ) → AllPut jobs → 
 put_answered [] m s h i = absurd cc
 put_answered (x ∷ xs) m s h i = go (x.sap == s) refl i (put_answered xs m s h.2)
   where
-    go : (b : Bool) → (x.sap == s) ≡ b → (b || is_in s (saps xs)) ≡ true → (is_in s (saps xs) ≡ true → has_staged (answered_by (job_from s xs) m) ≡ false) → has_staged (answered_by (job_from s (x ∷ xs)) m) ≡ false
+    go : (b : Bool) → (x.sap == s) ≡ b → (b || is_in s (saps xs)) ≡ true → (is_in s (saps xs) ≡ true → has_staged (answered_by (job_from s xs) m) ≡ false)
+        → has_staged (answered_by (job_from s (x ∷ xs)) m) ≡ false
     go true e k more = ap (λ b. has_staged (answered_by (if b then Some x.job else job_from s xs) m)) e ∙ answered_put x.job m h.0 h.1
     go false e k more = ap (λ b. has_staged (answered_by (if b then Some x.job else job_from s xs) m)) e ∙ more k
 

@@ -16,7 +16,9 @@ use Rattle.snep_core.specs.Calling.{ExchangedOnce, FailsAt, FailsBy, GivesUpTher
 use Rattle.snep_core.specs.Jobs.{Job, has_byte}
 use Rattle.snep_core.specs.Listening.{HearsAll, all_awaiting, all_come, awaited_saps, empties, forgets, gave_one}
 use Rattle.snep_core.proofs.accord.AllJobs.{awaited_so, come_saps, come_so, empties_so, forgets_so, gave_so, ready_saps}
-use Rattle.snep_core.specs.Talk.{AllReady, AreApart, CameTo, EndState, Ends, GivesUp, Goes, OnSap, Step, ComesTo, Working, all_emptied, all_heard, all_over, all_readied, as_they_came, emptied, gave_any, gave_something, given_up, goes_on, heard, heard_with, idle_after, most_idle, numbers_behind, one_on, own_of, payload, ready, replied, replied_ready, saps, settled, silent, call_behind, took, units_of}
+use Rattle.snep_core.specs.Talk.{AllReady, AreApart, CameTo, EndState, Ends, GivesUp, Goes, OnSap, Step, ComesTo, Working, all_emptied, all_heard, all_over, all_readied, as_they_came, emptied}
+use Rattle.snep_core.specs.Talk.{gave_any, gave_something, given_up, goes_on, heard, heard_with, idle_after, most_idle, numbers_behind, one_on, own_of, payload, ready, replied, replied_ready, saps}
+use Rattle.snep_core.specs.Talk.{settled, silent, call_behind, took, units_of}
 
 told_more : (from : Step) (ns : List ℕ) (did : List FarStep) (w : Working) (reply : List ℕ) (to : Step) → ComesTo ns from did (Goes w)
     → replied (first_number (numbers_behind did ns)) w reply ≡ to

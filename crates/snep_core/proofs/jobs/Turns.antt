@@ -1,6 +1,7 @@
 -- A call over a peer, turn by turn, from its begin to its end: any jobs, each on a connection of its own, while other connections stay as
 -- they are.
-use Rattle.std.proofs.Common.{◌≡◌, ◌≤◌, ◌⊎◌, ℕ, ◌+◌, ◌==◌, ◌&&◌, ◌||◌, not, Bool, true, false, List, [], ◌∷◌, length, map, Option, Some, None, refl, sym, ◌∙◌, ap, subst, inl, inr, arith, if◌then◌else◌}
+use Rattle.std.proofs.Common.{◌≡◌, ◌≤◌, ◌⊎◌, ℕ, ◌+◌, ◌==◌, ◌&&◌, ◌||◌, not, Bool, true, false, List, [], ◌∷◌, length, map, Option, Some, None, refl, sym, ◌∙◌, ap, subst, inl, inr, arith}
+use Rattle.std.proofs.Common.{if◌then◌else◌}
 use Rattle.std.proofs.lemmas.Bool.{eqb-true, lt-ltb}
 use Rattle.llcp_conn.specs.Conn.{ConnState}
 use Rattle.llcp_link.specs.Asking.{asked_from, has_waiting_of, standing_of}
@@ -14,7 +15,9 @@ use Rattle.snep_core.specs.Accord.{IsClientSap, IsPaired, PeerState, PeerSteps, 
 use Rattle.snep_core.specs.Jobs.{Begins, Job, has_byte, job_told, told_in}
 use Rattle.snep_core.specs.Server.{Received, ServerState, serving}
 use Rattle.snep_core.specs.Session.{Offer, fresh_session}
-use Rattle.snep_core.specs.Talk.{AllReady, EndState, Ends, GivesUp, Goes, OnSap, Ready, Step, Working, all_emptied, all_heard, all_over, all_readied, all_well, begins_on, client_sap, emptied, emptied_by, finished, gave_any, gave_something, given_up, as_they_came, heard, heard_so, heard_with, idle_after, is_over, is_there, miu_of, most_idle, needs, own_of, payload, readied, ready_so, replied, saps, server_sap, settled, silent, call_behind, took, units_of, with_job}
+use Rattle.snep_core.specs.Talk.{AllReady, EndState, Ends, GivesUp, Goes, OnSap, Ready, Step, Working, all_emptied, all_heard, all_over, all_readied, all_well, begins_on, client_sap, emptied}
+use Rattle.snep_core.specs.Talk.{emptied_by, finished, gave_any, gave_something, given_up, as_they_came, heard, heard_so, heard_with, idle_after, is_over, is_there, miu_of, most_idle, needs, own_of}
+use Rattle.snep_core.specs.Talk.{payload, readied, ready_so, replied, saps, server_sap, settled, silent, call_behind, took, units_of, with_job}
 use Rattle.snep_core.proofs.accord.AllJobs.{emptied_elsewhere}
 use Rattle.snep_core.proofs.jobs.Answered.{Came, Nothing, Replied, came_gives, or_true, pressed_answers, true_or}
 use Rattle.snep_core.proofs.requests.Conversations.{Settled, Tells, told_apart}
@@ -203,7 +206,8 @@ module _ (limit : ℕ) (table : List Offer) (names : List Bound) (old : List Rec
         let next = c.job_at r.to in
         let serves = subst (λ w. Serves s limit table p.service w (c.accepted_at r.to)) (sym r.session_is)
         (subst (λ w. Serves s limit table p.service (c.session_at t.phase) w) (sym r.accepted_is) t.serves) in
-        let settled : Settled c r.to t.n = λ k. t.settled (ap (λ us. is_some_of us || is_over (c.job_at t.phase)) (sym r.same_units) ∙ ap (λ b. is_some_of (c.units_at r.to) || b) (sym r.same_over) ∙ k) in
+        let settled : Settled c r.to t.n =
+        λ k. t.settled (ap (λ us. is_some_of us || is_over (c.job_at t.phase)) (sym r.same_units) ∙ ap (λ b. is_some_of (c.units_at r.to) || b) (sym r.same_over) ∙ k) in
         let now_ : Talking limit table old z s (plan s) next (Some o) (conn_from s p.served) p.service = record {
           range = t.range;
           n = t.n;

@@ -1,5 +1,6 @@
 -- What a server answers a request before all of it came, what the client makes of it, and what the client submits.
-use Rattle.std.proofs.Common.{◌≡◌, ◌<◌, ◌≤◌, ◌⊎◌, nat_lt, ℕ, zero, suc, ◌+◌, is_none, Bool, true, false, List, [], ◌∷◌, ◌++◌, length, take, drop, Option, Some, None, refl, sym, ◌∙◌, ap, subst, inl, inr, arith, append-nil, append_assoc, length-append, if◌then◌else◌}
+use Rattle.std.proofs.Common.{◌≡◌, ◌<◌, ◌≤◌, ◌⊎◌, nat_lt, ℕ, zero, suc, ◌+◌, is_none, Bool, true, false, List, [], ◌∷◌, ◌++◌, length, take, drop, Option, Some, None, refl, sym, ◌∙◌, ap, subst, inl}
+use Rattle.std.proofs.Common.{inr, arith, append-nil, append_assoc, length-append, if◌then◌else◌}
 use Rattle.std.specs.List.{concat}
 use Rattle.std.proofs.lemmas.Bool.{le-ltb, ltb-false, ltb-true}
 use Rattle.llcp_conn.specs.declared.fault.ConnFault.TheVariants.{TooLong, WindowFull}
@@ -24,7 +25,8 @@ use Rattle.snep_core.specs.Talk.{EndState, behind_first, finished, is_over, miu_
 use Rattle.snep_core.proofs.requests.Conversations.{AllWithin, Comes, Conversation, Converses, Hears, MayTell, Readies, StandsAt, Starts, Tells, hears_nothing, no_unit, stays}
 use Rattle.snep_core.proofs.connections.OnConnection.{OnIt, begin_on, conn_at, on_so, readied_on, sent_on, some_on, submits_on, takes_on}
 use Rattle.snep_core.proofs.sessions.Served.{Serves, due_is, serves_sent}
-use Rattle.snep_core.proofs.requests.RequestPhases.{Asked, Came, ContinueHeard, Continues, IsRead, Phase, Refusing, Rejected, RefusalHeard, Sending, Unsent, Submitted, Whole, Holds, accepted_at, begun_info, bytes_of, conversation, first_comes, first_unit, gathering, job_at, later_comes, queue_at, rest_units, session_at, units_at}
+use Rattle.snep_core.proofs.requests.RequestPhases.{Asked, Came, ContinueHeard, Continues, IsRead, Phase, Refusing, Rejected, RefusalHeard, Sending, Unsent, Submitted, Whole, Holds, accepted_at}
+use Rattle.snep_core.proofs.requests.RequestPhases.{begun_info, bytes_of, conversation, first_comes, first_unit, gathering, job_at, later_comes, queue_at, rest_units, session_at, units_at}
 
 miu_some : (n : ℕ) → 0 < n → miu_of (stands.Open n) ≡ Some n
 miu_some zero h = absurd (omega arith)
@@ -295,7 +297,8 @@ module _ (sap miu size limit : ℕ) (table : List Offer) (ask : Asked) (old : Li
         let i : v ≡ u = cc in
         let j : q ≡ queue = cc in
         subst (λ z. Comes sap limit table (conversation miu limit table ask old later) (Sending info (v ∷ q) rest) z [] (serving.brought s sap u)) j
-        (subst (λ z. Comes sap limit table (conversation miu limit table ask old later) (Sending info (v ∷ q) rest) q [] (serving.brought s sap z)) i (later_comes miu limit table ask old later sap w info v q rest k s h))
+        (subst (λ z. Comes sap limit table (conversation miu limit table ask old later) (Sending info (v ∷ q) rest) q [] (serving.brought s sap z)) i
+        (later_comes miu limit table ask old later sap w info v q rest k s h))
     request_comes Unsent u queue e k s h = absurd (no_unit u queue e)
     request_comes Refusing u queue e k s h = absurd (no_unit u queue e)
     request_comes RefusalHeard u queue e k s h = absurd (no_unit u queue e)
@@ -332,7 +335,8 @@ module _ (sap miu size limit : ℕ) (table : List Offer) (ask : Asked) (old : Li
       pub same : at (Sending info queue rest) ≡ x
       pub full : (rest ≡ []) ⊎ (n.server_window ≤ length n.asked + length queue)
 
-    sends : (info : List ℕ) (x : Session) (k : ℕ) (queue : List (List ℕ)) (rest : List ℕ) → Holds miu limit table ask old later (Sending info queue rest) → IsPaired n (length queue) → 0 < miu → length rest ≤ k
+    sends : (info : List ℕ) (x : Session) (k : ℕ) (queue : List (List ℕ)) (rest : List ℕ) → Holds miu limit table ask old later (Sending info queue rest) → IsPaired n (length queue) → 0 < miu
+        → length rest ≤ k
         → at (Sending info queue rest) ≡ x → Sends_ info x (some_on k miu (conn_at sap n queue []) ask.most rest)
     sends info x zero queue rest w r low i e = record { queue = queue; rest = rest; holds = w; paired = r; ready = refl; same = e; full = inl (nil_from_length rest (omega arith)) }
     sends info x (suc k) queue [] w r low i e = record { queue = queue; rest = []; holds = w; paired = r; ready = refl; same = e; full = inl refl }
@@ -350,8 +354,17 @@ module _ (sap miu size limit : ℕ) (table : List Offer) (ask : Asked) (old : Li
           within_more miu queue u w.4 (omega (arith, len)),
         ) in
         either (Sends_ info x) (takes_on (conn_at sap n queue []) u) _ _
-        (λ t. sends info x k (queue ++ u ∷ []) rest now (paired_more sap n queue u r (takes_room sap n queue [] u t)) low (let d = length-drop miu (b ∷ bs) in omega (arith, d, low, i)) (ap (λ z. gathering ask.request (length z) info []) same ∙ e))
-        (λ t. record { queue = queue; rest = b ∷ bs; holds = w; paired = r; ready = refl; same = e; full = inr (no_room sap n queue [] u (let z : n.server_miu ≡ miu = is in omega (arith, len, z)) t) })
+        (λ t. sends info x k (queue ++ u ∷ []) rest now (paired_more sap n queue u r (takes_room sap n queue [] u t)) low (let d = length-drop miu (b ∷ bs) in omega (arith, d, low, i))
+        (ap (λ z. gathering ask.request (length z) info []) same ∙ e))
+        (λ t. record {
+          queue = queue;
+          rest = b ∷ bs;
+          holds = w;
+          paired = r;
+          ready = refl;
+          same = e;
+          full = inr (no_room sap n queue [] u (let z : n.server_miu ≡ miu = is in omega (arith, len, z)) t);
+        })
 
     miu_is : 0 < miu → miu_of (stands.Open n.server_miu) ≡ Some miu
     miu_is low = ap (λ z. miu_of (stands.Open z)) is ∙ miu_some miu low
@@ -402,7 +415,8 @@ module _ (sap miu size limit : ℕ) (table : List Offer) (ask : Asked) (old : Li
         short = let e = length-take miu (bytes_of ask) in let z : n.server_miu ≡ miu = is in omega (arith, e, z)
 
         go : (b : Bool) → takes_on bare_end first ≡ b → Ready_ Unsent
-        go true t = as_at Unsent (chosen true) (all ∙ ap chosen t) Submitted refl tt (paired_more sap n [] first r (takes_room sap n [] [] first t)) refl refl refl (behind_over ask.most behind) (λ u o q a s h. absurd (no_unit _ _ (sym q)))
+        go true t = as_at Unsent (chosen true) (all ∙ ap chosen t) Submitted refl tt (paired_more sap n [] first r (takes_room sap n [] [] first t)) refl refl refl (behind_over ask.most behind)
+            (λ u o q a s h. absurd (no_unit _ _ (sym q)))
         go false t = as_at Unsent (chosen false) (all ∙ ap chosen t) Unsent refl tt r refl refl refl refl (λ u o q a s h. absurd (never_full sap n [] 0 r (no_room sap n [] [] first short t) refl a))
     request_readies fits (Sending info queue rest) k low r =
         let x = sends info (at (Sending info queue rest)) (length rest) queue rest k r low (omega arith) refl in

@@ -1,5 +1,6 @@
 -- A get that is answered by a value: where the two stand, from the answer to the value's last byte.
-use Rattle.std.proofs.Common.{◌≡◌, ◌<◌, ◌≤◌, ℕ, ◌+◌, ◌^◌, Bool, true, false, List, [], ◌∷◌, ◌++◌, length, take, drop, Some, None, refl, sym, ◌∙◌, ap, subst, inr, arith, append-nil, append_assoc, length-append, if◌then◌else◌}
+use Rattle.std.proofs.Common.{◌≡◌, ◌<◌, ◌≤◌, ℕ, ◌+◌, ◌^◌, Bool, true, false, List, [], ◌∷◌, ◌++◌, length, take, drop, Some, None, refl, sym, ◌∙◌, ap, subst, inr, arith, append-nil, append_assoc}
+use Rattle.std.proofs.Common.{length-append, if◌then◌else◌}
 use Rattle.std.specs.List.{concat}
 use Rattle.std.proofs.lemmas.Bool.{eq-eqb, le-ltb, ne_eqb}
 use Rattle.std.proofs.lemmas.List.{length-take, take-append-drop}
@@ -207,7 +208,8 @@ module _ (limit counts most : ℕ) (v : List ℕ) (old : List Received) (size : 
         pub some : 0 < length (take size going)
         pub serves : Serves sap limit table (serving.sent s sap size) (giving (drop size going)) old
 
-      gives : (x : Session) (going : List ℕ) (s : ServerState) → Serves sap limit table s x old → 0 < length going → sent size x ≡ record { session = giving (drop size going); unit = Some (take size going) } → Gives going s
+      gives : (x : Session) (going : List ℕ) (s : ServerState) → Serves sap limit table s x old → 0 < length going
+          → sent size x ≡ record { session = giving (drop size going); unit = Some (take size going) } → Gives going s
       gives x going s h some e =
           let z : Sent = record { session = giving (drop size going); unit = Some (take size going) } in
           let len = length-take size going in record {
@@ -312,7 +314,8 @@ module _ (limit counts most : ℕ) (v : List ℕ) (old : List Received) (size : 
           let total : length v ≡ length (info_of first) + length rest = ap length (sym all) ∙ length-append (info_of first) rest in
           let short : length (info_of first ++ []) < length v = subst (λ z. length z < length v) (sym (append-nil (info_of first))) (omega arith) in
           let on : value_told (length v) (info_of first) (Asks (length v) (info_of first)) ≡ Some (Asks (length v) (info_of first)) =
-          ap (λ z. value_told (length v) z (Asks (length v) (info_of first))) (sym (append-nil (info_of first))) ∙ value_goes_on (length v) (info_of first) [] (Asks (length v) (info_of first)) short in record {
+          ap (λ z. value_told (length v) z (Asks (length v) (info_of first))) (sym (append-nil (info_of first)))
+          ∙ value_goes_on (length v) (info_of first) [] (Asks (length v) (info_of first)) short in record {
             to = Asking;
             holds = (k, some);
             told = ap (λ o. told_on o []) (first_told ∙ on);
@@ -407,7 +410,8 @@ module _ (limit counts most : ℕ) (v : List ℕ) (old : List Received) (size : 
         low : 0 < miu
         low = omega (arith, range.0)
 
-        collecting_stays : (have : List ℕ) (units : List (List ℕ)) (going : List ℕ) → (counts ≤ limit) × AddsUp have units going → IsPaired n 0 → Readies sap limit table later size n (Collecting have units going)
+        collecting_stays : (have : List ℕ) (units : List (List ℕ)) (going : List ℕ) → (counts ≤ limit) × AddsUp have units going → IsPaired n 0
+            → Readies sap limit table later size n (Collecting have units going)
         collecting_stays have units (b ∷ bs) k r = stays sap limit table later (Collecting have units (b ∷ bs)) k size n r refl (λ u o q s h. collects k.0 have units b bs k.1 s h)
         collecting_stays have [] [] k r = absurd (let z = k.1.some in omega arith)
         collecting_stays have (x ∷ xs) [] k r = stays sap limit table later (Collecting have (x ∷ xs) []) k size n r refl (λ u o q s h. absurd (no_unit _ _ (sym u)))

@@ -74,7 +74,8 @@ look_code limit v c a b d e info hv =
     let n = number a b d e in
     let u = head v c a b d e info in
     either (Look limit u) (c == 0) _ _
-    (λ t. look_bare limit u n (length info) GoesOn (λ x. (let z : c ≡ 0 = eqb-true c 0 t in let y : c ≡ 2 = x.1 in omega arith)) (λ x y z. (let w : c ≡ 0 = eqb-true c 0 t in let q : c ≡ 2 = x.1 in omega arith)))
+    (λ t. look_bare limit u n (length info) GoesOn (λ x. (let z : c ≡ 0 = eqb-true c 0 t in let y : c ≡ 2 = x.1 in omega arith))
+    (λ x y z. (let w : c ≡ 0 = eqb-true c 0 t in let q : c ≡ 2 = x.1 in omega arith)))
     (λ t. either (Look limit u) (c == 1) _ _
     (λ t. look_get limit u (λ x. (let z : c ≡ 1 = eqb-true c 1 t in let y : c ≡ 2 = x.1 in omega arith)))
     (λ t. either (Look limit u) (c == put_code) _ _

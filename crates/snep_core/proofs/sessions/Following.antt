@@ -10,7 +10,9 @@ use Rattle.llcp_link.specs.Taking.{taken_from}
 use Rattle.llcp_link.specs.State.{own_from}
 use Rattle.llcp_link.proofs.Ranged.{either}
 use Rattle.snep_core.specs.Jobs.{Job, Begins, Waits, Sends, Asks, Collects, Looks, Closes, Over, Ending, told_in}
-use Rattle.snep_core.specs.Talk.{EndState, Ends, GivesUp, Goes, OnSap, Step, ComesTo, Working, all_emptied, all_heard, all_over, all_readied, all_well, as_they_came, emptied, gave_any, given_up, goes_on, heard, heard_so, heard_with, idle_after, is_over, most_idle, one_on, own_of, readied, ready, replied, saps, settled, own_of, silent, call_behind, took, units_of}
+use Rattle.snep_core.specs.Talk.{EndState, Ends, GivesUp, Goes, OnSap, Step, ComesTo, Working, all_emptied, all_heard, all_over, all_readied, all_well, as_they_came, emptied, gave_any, given_up}
+use Rattle.snep_core.specs.Talk.{goes_on, heard, heard_so, heard_with, idle_after, is_over, most_idle, one_on, own_of, readied, ready, replied, saps, settled, own_of, silent, call_behind, took}
+use Rattle.snep_core.specs.Talk.{units_of}
 use Rattle.snep_core.specs.RepliesLeft.{IsUnderWay}
 use Rattle.snep_core.specs.private.Waning.{Aim, IsOf, Serves, aim_of}
 use Rattle.snep_core.proofs.sessions.Jobs.{heard_lets, serves_own}

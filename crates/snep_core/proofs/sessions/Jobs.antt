@@ -8,7 +8,8 @@ use Rattle.snep_core.specs.declared.job.Refusal.{Refusal}
 use Rattle.snep_core.specs.declared.message.Answer.TheVariants as answers
 use Rattle.snep_core.specs.Message.{answer_code}
 use Rattle.snep_core.specs.First.{info_of}
-use Rattle.snep_core.specs.Jobs.{Job, Begins, Waits, Sends, Asks, Collects, Looks, Closes, Over, Done, Value, Sap, Refused, ended_by, has_byte, head_of, is_bare, refusal_by_code, sent_told, success_told, told, job_told, told_in, told_on, value_told, waiting_told}
+use Rattle.snep_core.specs.Jobs.{Job, Begins, Waits, Sends, Asks, Collects, Looks, Closes, Over, Done, Value, Sap, Refused, ended_by, has_byte, head_of, is_bare, refusal_by_code, sent_told}
+use Rattle.snep_core.specs.Jobs.{success_told, told, job_told, told_in, told_on, value_told, waiting_told}
 use Rattle.snep_core.specs.Talk.{EndState, emptied, finished, found_so, heard, heard_so, is_lost, is_waiting, units_of}
 use Rattle.llcp_link.specs.Asking.{found_in, standing_of}
 use Rattle.llcp_link.specs.State.{own_from}

@@ -1,11 +1,11 @@
 -- What a client put and was told, by what the units put that came.
 use Rattle.std.proofs.Common.{◌≡◌, ℕ, nat_lt, Bool, true, false, List, [], ◌∷◌, ◌++◌, length, refl, sym, ap, ◌∙◌, inl, inr, append-nil, if◌then◌else◌}
 use Rattle.snep_core.specs.Cuts.{fit, units_of_puts}
-use Rattle.snep_core.specs.Links.{Answered, AreToldRight, IsToldRight, IsToldSo, LinkAccepts, ClientLinkLaw, Put, Rejected, Success, Told, Unanswered, fitting, jobs_of, put_before, put_of, puts_of, told_taken}
+use Rattle.snep_core.specs.Links.{Answered, AreToldRight, IsToldRight, IsToldSo, LinkAccepts, ClientLinkLaw, Put, Rejected, Success, Told, Unanswered, fitting, jobs_of, put_before, put_of, puts_of}
+use Rattle.snep_core.specs.Links.{told_taken}
 use Rattle.snep_core.proofs.sessions.Cuts.{last_puts, puts_one}
 
 module _ (limit : ℕ) where
-
   -- one put more
   more_by : (b : Bool) (m : List ℕ) (xs ys zs : List (List ℕ)) → zs ≡ xs ++ ys → (if b then zs else m ∷ zs) ≡ (if b then xs else m ∷ xs) ++ ys
   more_by true m xs ys zs e = e

@@ -30,7 +30,8 @@ module _ (sap limit : ℕ) (table : List Offer) (s : ServerState) (x : Session) 
   pub serves_brought : (u : List ℕ) (d : Did) → did limit table x u ≡ d
       → Serves sap limit table (serving.brought s sap u) d.session (accepted ++ received sap d.accepts)
   serves_brought u d e =
-      let k : did s.limit s.table (session_of s sap) u ≡ d = ap (λ n. did n s.table (session_of s sap) u) h.most ∙ ap (λ t. did limit t (session_of s sap) u) h.offers ∙ ap (λ y. did limit table y u) h.session ∙ e in
+      let k : did s.limit s.table (session_of s sap) u ≡ d = ap (λ n. did n s.table (session_of s sap) u) h.most ∙ ap (λ t. did limit t (session_of s sap) u) h.offers
+      ∙ ap (λ y. did limit table y u) h.session ∙ e in
       subst (λ z. Serves sap limit table (brought_by s sap z) d.session (accepted ++ received sap d.accepts)) (sym k) (record {
         seats = seats_put sap s d.session h.seats;
         session = session_put s.sessions sap d.session h.seats;

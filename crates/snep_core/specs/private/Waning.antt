@@ -1,6 +1,7 @@
 -- What a reply leaves to come, and what a job is for: for private calls.
 use Rattle.std.specs.Prelude.{◌≡◌, ◌<◌, ◌≤◌, ℕ, Bool, true, false, Option, Some, None}
-use Rattle.snep_core.specs.Jobs.{Job, Begins, Waits, Sends, Asks, Collects, Looks, Closes, Over, Ending, Done, Value, Sap, Refused}
+use Rattle.snep_core.specs.Jobs.{Job, Begins, Waits, Sends, Asks, Collects, Looks, Closes, Over, Ending, Done, Value}
+use Rattle.snep_core.specs.Jobs.{Sap, Refused}
 
 -- a reply that gave something leaves less to come, and another one not more
 abbrev pub LessensTo : Bool → ℕ → ℕ → Type 0

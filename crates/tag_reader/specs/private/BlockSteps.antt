@@ -1,5 +1,6 @@
 -- What the parts of a reading of a Type 5 tag say. No public contract speaks of these.
-use Rattle.std.specs.Prelude.{◌≡◌, ℕ, zero, suc, ◌*◌, ◌<◌, ◌≤◌, ◌⊎◌, List, [], ◌∷◌, ◌++◌, length, Bool, true, false, Result, Ok, Err}
+use Rattle.std.specs.Prelude.{◌≡◌, ℕ, zero, suc, ◌*◌, ◌<◌, ◌≤◌, ◌⊎◌, List, [], ◌∷◌, ◌++◌, length, Bool, true, false}
+use Rattle.std.specs.Prelude.{Result, Ok, Err}
 use Rattle.nfc_base.specs.Signal.{Signal}
 use Rattle.nfc_base.specs.TagLinks.{LinkView}
 use Rattle.t5t_tag.specs.Step.{no_block}
@@ -40,7 +41,8 @@ TellsBlocks id ask size r (Ok Ended) = IsOne ask × (0 < size) × (r ≡ t5.answ
 TellsBlocks id ask size r (Err (fault.Refused code)) =
     IsOne ask × (r ≡ t5.answer_frame (t5_says.Error code)) × (0 < size → code ≡ no_block → ⊥)
 TellsBlocks id ask size r (Err fault.Protocol) =
-    ((p : List ℕ) → HasContent (T5 id) r p → IsBlocks size ask p → ⊥) × ((code : ℕ) → r ≡ t5.answer_frame (t5_says.Error code) → ⊥)
+    ((p : List ℕ) → HasContent (T5 id) r p → IsBlocks size ask p → ⊥)
+    × ((code : ℕ) → r ≡ t5.answer_frame (t5_says.Error code) → ⊥)
 TellsBlocks id ask size r (Err _) = ⊥
 
 -- more is known, or that the tag gives no several blocks at once
@@ -122,7 +124,8 @@ NextBlocks aim id size a b known known' n (Err e) = Reads aim (T5 id) size a b [
 
 -- the container is read
 abbrev pub Opens : Aim → List ℕ → LinkView → LinkView → Known → Result Space ReadFault → Type 0
-Opens aim id a b known (Ok space) = (size : ℕ) → IsTag (T5 id) size a → (n : ℕ) × IsReading aim id size a b known (suc n)
+Opens aim id a b known (Ok space) = (size : ℕ) → IsTag (T5 id) size a
+    → (n : ℕ) × IsReading aim id size a b known (suc n)
 Opens aim id a b known (Err e) = (size : ℕ) → IsTag (T5 id) size a → Reads aim (T5 id) size a b [] (Err e)
 
 -- the message is found, or the reading has ended

@@ -24,7 +24,8 @@ content_at store (suc zero) = []
 content_at store (suc (suc zero)) = take 15 (container_in store)
 content_at store (suc (suc (suc zero))) = []
 content_at store (suc (suc (suc (suc zero)))) = take 2 (file_in store)
-content_at store (suc (suc (suc (suc (suc k))))) = take (piece_size store k) (drop (2 + most_asked store * k) (file_in store))
+content_at store (suc (suc (suc (suc (suc k))))) = take (piece_size store k)
+    (drop (2 + most_asked store * k) (file_in store))
 
 -- the first n commands of a reading are answered
 abbrev pub Reached : Aim → ℕ → LinkView → LinkView → ℕ → Type 0

@@ -27,7 +27,8 @@ pub record IsSettledOver (space : Space) (known : List ℕ) (result : Walk) : Ty
   pub places : HasPlaces known result
 
 abbrev pub GroundIn : Space → ℕ → List ℕ → Result Ground ReadFault → Type 0
-GroundIn space block known (Ok (Area known' block' map')) = (known' ≡ known) × (block' ≡ block) × IsSettledOver space known (walk.Held map')
+GroundIn space block known (Ok (Area known' block' map')) =
+    (known' ≡ known) × (block' ≡ block) × IsSettledOver space known (walk.Held map')
 GroundIn space block known (Ok (File map' length')) = ⊥
 GroundIn space block known (Err fault.NoMessageTlv) = IsSettledOver space known walk.NoMessageTlv
 GroundIn space block known (Err fault.BadTlv) = IsSettledOver space known walk.BadTlv

@@ -10,7 +10,8 @@ IsCutAt byte text x = (text ≡ x.0.now ++ byte ∷ x.1.now) × All (λ b. b ≢
 
 -- the first line with its LF, and what stands behind
 abbrev pub IsFirstLine : List ℕ → Bor (List ℕ) × Bor (List ℕ) → Type 0
-IsFirstLine text x = (body : List ℕ) × (x.0.now ≡ body ++ 10 ∷ []) × All (λ b. b ≢ 10) body × (text ≡ x.0.now ++ x.1.now)
+IsFirstLine text x = (body : List ℕ) × (x.0.now ≡ body ++ 10 ∷ []) × All (λ b. b ≢ 10) body
+    × (text ≡ x.0.now ++ x.1.now)
 
 -- The first line of a script, and what stands behind it.
 pub record IsNextLine (script : List ℕ) (x : Bor (List ℕ) × Bor (List ℕ)) : Type 0 where

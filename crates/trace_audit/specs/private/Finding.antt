@@ -1,4 +1,5 @@
--- What is found in the text of an event: its parts, where it is such a text. (The form of a report is this project's own.)
+-- What is found in the text of an event: its parts, where it is such a text. (The form of a report is this project's
+-- own.)
 use Rattle.std.specs.Prelude.{◌≡◌, ℕ, ◌<◌, ◌^◌, List, Option, Some}
 use Rattle.nfc_base.specs.Signal.{Signal, IsSignal}
 use Rattle.nfc_base.specs.declared.frame.Tech.{Tech}

@@ -1,4 +1,5 @@
--- What one line of a script does with a report: its entry is looked for at the front of what is left, as long as all was good.
+-- What one line of a script does with a report: its entry is looked for at the front of what is left, as long as all
+-- was good.
 use Rattle.std.specs.Prelude.{◌≡◌, ℕ, ◌+◌, ◌≤◌, List, ◌++◌, length, ◌⊎◌, Bool, true, false}
 use Rattle.nfc_base.specs.declared.event.Event.{Event}
 use Rattle.bench_script.specs.declared.command.Command.{Command}
@@ -42,7 +43,8 @@ pub record StraysAtEvent (old new : Benched) (line : ℕ) (c : Command) (left : 
 -- how far the walk comes with an entry's answer, behind so many good lines
 abbrev pub ComesBy : Bool → Entry → ℕ → List ℕ → Walk → Type 0
 ComesBy false e good left w = (left ≡ line_text e.line (answer_text e.answer) ++ w.left.now) × (w.good ≡ good + 1)
-ComesBy true e good left w = ((rest : List ℕ) → left ≡ line_text e.line (answer_text e.answer) ++ rest → ⊥) × (w.good ≡ good) × (w.left.now ≡ left)
+ComesBy true e good left w = ((rest : List ℕ) → left ≡ line_text e.line (answer_text e.answer) ++ rest → ⊥)
+    × (w.good ≡ good) × (w.left.now ≡ left)
 
 abbrev pub ComesBehind : Entry → ℕ → List ℕ → Walk → Type 0
 ComesBehind e good left w = ComesBy w.strayed e good left w
@@ -50,7 +52,8 @@ ComesBehind e good left w = ComesBy w.strayed e good left w
 -- So many lines of the report are good beyond those before, and the next one may be, or isn't.
 abbrev pub StepsTo : Bool → Benched → Benched → ℕ → Command → List ℕ → List ℕ → ℕ → Type 0
 StepsTo false old new line c left rest lines = StaysOn old new line c left rest lines
-StepsTo true old new line c left rest lines = StraysAtAnswer old new line c left lines ⊎ StraysAtEvent old new line c left lines
+StepsTo true old new line c left rest lines = StraysAtAnswer old new line c left lines
+    ⊎ StraysAtEvent old new line c left lines
 
 pub record StepsOn (old new : Benched) (line : ℕ) (c : Command) (w w' : Walk) : Type 0 where
   pub lines : ℕ

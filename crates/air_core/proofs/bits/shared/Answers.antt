@@ -16,19 +16,22 @@ loop-k-preserved c =
     record {
       n = omega arith;
       m = omega arith;
-      same = shared_more (common (take c.args.n u) (take c.args.m w)) u w c.args.n c.args.m c.loop-k.k (omega (arith, length_of_bits c.args.a.now, c.requires.a)) (omega (arith, length_of_bits c.args.b.now, c.requires.b)) kn km e c.loop-k.invariant.same;
+      same = shared_more (common (take c.args.n u) (take c.args.m w)) u w c.args.n c.args.m c.loop-k.k (omega (arith, length_of_bits c.args.a.now, c.requires.a))
+          (omega (arith, length_of_bits c.args.b.now, c.requires.b)) kn km e c.loop-k.invariant.same;
     }
 
 pub returns-else-k-m-clause-common : goal.returns-else-k-m-clause-common
 returns-else-k-m-clause-common c =
     let u : List Bool = bits_of c.args.a.now in
     let w : List Bool = bits_of c.args.b.now in
-    shared_end (common (take c.args.n u) (take c.args.m w)) u w c.args.n c.args.m c.loop-k.k (omega (arith, length_of_bits c.args.a.now, c.requires.a)) (omega (arith, length_of_bits c.args.b.now, c.requires.b))
+    shared_end (common (take c.args.n u) (take c.args.m w)) u w c.args.n c.args.m c.loop-k.k (omega (arith, length_of_bits c.args.a.now, c.requires.a))
+    (omega (arith, length_of_bits c.args.b.now, c.requires.b))
     (λ h k e. grind (arith, common_steps)) c.loop-k.invariant.same
 
 pub returns-then-bit-clause-common : goal.returns-then-bit-clause-common
 returns-then-bit-clause-common c =
     let u : List Bool = bits_of c.args.a.now in
     let w : List Bool = bits_of c.args.b.now in
-    shared_end (common (take c.args.n u) (take c.args.m w)) u w c.args.n c.args.m c.loop-k.k (omega (arith, length_of_bits c.args.a.now, c.requires.a)) (omega (arith, length_of_bits c.args.b.now, c.requires.b))
+    shared_end (common (take c.args.n u) (take c.args.m w)) u w c.args.n c.args.m c.loop-k.k (omega (arith, length_of_bits c.args.a.now, c.requires.a))
+    (omega (arith, length_of_bits c.args.b.now, c.requires.b))
     (λ h k e. grind (arith, common_steps)) c.loop-k.invariant.same

@@ -4,7 +4,8 @@ use Rattle.bench_devices.proofs.reads.CardReading.{ends_linked, ends_unanswered,
 use Rattle.bench_devices.proofs.reading.read_card.Goals as goal
 
 pub read_linked-requires-clause-tag : goal.read_linked-requires-clause-tag
-read_linked-requires-clause-tag c = (c.requires.0, link_is c.args.field.now c.args.place c.requires c.in-Ok.link (opened_at c.args.field.now c.args.place c.in-Ok.link c.in-Ok.ensures.turns) c.in-Ok.ensures.ok)
+read_linked-requires-clause-tag c =
+    (c.requires.0, link_is c.args.field.now c.args.place c.requires c.in-Ok.link (opened_at c.args.field.now c.args.place c.in-Ok.link c.in-Ok.ensures.turns) c.in-Ok.ensures.ok)
 
 pub read_linked-requires-clause-fresh : goal.read_linked-requires-clause-fresh
 read_linked-requires-clause-fresh c = opened_fresh c.args.field.now c.args.place c.in-Ok.link c.in-Ok.ensures.turns

@@ -16,7 +16,8 @@ returns-in_err-find_all-clause-tells c fed =
     let same : c.from_residual.result ≡ Err e = search rules in
     let S : Result Everybody PollFault → Type 0 = λ r. Searches (moment c.args.field.now) (moment c.find_all.new.field) r in
     subst S (sym same)
-    (searches_one c.args.field.now c.find_all.new.field (listed c.find_all.result) c.requires.idle.tame c.requires.idle.tidy (quiet_find c.args.field.now c.find_all.new.field (listed c.find_all.result) c.find_all.ensures.turns) c.find_all.ensures.crowd c.find_all.ensures.lost
+    (searches_one c.args.field.now c.find_all.new.field (listed c.find_all.result) c.requires.idle.tame c.requires.idle.tidy
+    (quiet_find c.args.field.now c.find_all.new.field (listed c.find_all.result) c.find_all.ensures.turns) c.find_all.ensures.crowd c.find_all.ensures.lost
     e (ap listed (c.in_err-find_all.was)) (λ m. fed (same ∙ ap Err m)))
 
 pub returns-in_err-others-clause-tells : goal.returns-in_err-others-clause-tells
@@ -29,8 +30,10 @@ returns-in_err-others-clause-tells c fed =
     let S : Result Everybody PollFault → Type 0 = λ r. Searches (moment c.args.field.now) (moment c.inventory_one.new.field) r in
     let T : Result Vcrowd PollFault → Type 0 = λ r. S (together c.in_ok-find_all.field-0.items r) in
     subst S (sym same) (subst T is
-    (searches_both c.args.field.now c.find_all.new.field (listed c.find_all.result) c.requires.idle.tame c.requires.idle.tidy (quiet_find c.args.field.now c.find_all.new.field (listed c.find_all.result) c.find_all.ensures.turns) c.find_all.ensures.crowd c.find_all.ensures.lost
-    c.in_ok-find_all.field-0.items well c.inventory_one.new.field c.inventory_one.result (quiet_inventory c.find_all.new.field c.inventory_one.new.field c.inventory_one.result (c.inventory_one.ensures.turns lit)) (c.inventory_one.ensures.cause lit) c.inventory_one.ensures.lost lit
+    (searches_both c.args.field.now c.find_all.new.field (listed c.find_all.result) c.requires.idle.tame c.requires.idle.tidy
+    (quiet_find c.args.field.now c.find_all.new.field (listed c.find_all.result) c.find_all.ensures.turns) c.find_all.ensures.crowd c.find_all.ensures.lost
+    c.in_ok-find_all.field-0.items well c.inventory_one.new.field c.inventory_one.result (quiet_inventory c.find_all.new.field c.inventory_one.new.field c.inventory_one.result
+    (c.inventory_one.ensures.turns lit)) (c.inventory_one.ensures.cause lit) c.inventory_one.ensures.lost lit
     (λ m. fed (same ∙ ap Err (let starved : e ≡ faults.Memory = let k : ◌≡◌ {A = Result Vcrowd PollFault} (Err e) (Err faults.Memory) = sym is ∙ m in cc in starved)))))
 
 pub returns-clause-tells : goal.returns-clause-tells
@@ -42,17 +45,22 @@ returns-clause-tells c fed =
     let T : Result Vcrowd PollFault → Type 0 = λ r. S (together c.in_ok-find_all.field-0.items r) in
     let C : List Picked → Type 0 = λ cards. S (Ok (record { cards = cards; others = c.in_ok-others.others })) in
     subst C (sym c.new-cards.ensures) (subst T is
-    (searches_both c.args.field.now c.find_all.new.field (listed c.find_all.result) c.requires.idle.tame c.requires.idle.tidy (quiet_find c.args.field.now c.find_all.new.field (listed c.find_all.result) c.find_all.ensures.turns) c.find_all.ensures.crowd c.find_all.ensures.lost
-    c.in_ok-find_all.field-0.items well c.inventory_one.new.field c.inventory_one.result (quiet_inventory c.find_all.new.field c.inventory_one.new.field c.inventory_one.result (c.inventory_one.ensures.turns lit)) (c.inventory_one.ensures.cause lit) c.inventory_one.ensures.lost lit
+    (searches_both c.args.field.now c.find_all.new.field (listed c.find_all.result) c.requires.idle.tame c.requires.idle.tidy
+    (quiet_find c.args.field.now c.find_all.new.field (listed c.find_all.result) c.find_all.ensures.turns) c.find_all.ensures.crowd c.find_all.ensures.lost
+    c.in_ok-find_all.field-0.items well c.inventory_one.new.field c.inventory_one.result (quiet_inventory c.find_all.new.field c.inventory_one.new.field c.inventory_one.result
+    (c.inventory_one.ensures.turns lit)) (c.inventory_one.ensures.cause lit) c.inventory_one.ensures.lost lit
     (λ m. (let k : ◌≡◌ {A = Result Vcrowd PollFault} (Ok c.in_ok-others.others) (Err faults.Memory) = sym is ∙ m in cc))))
 
 pub returns-in_err-find_all-clause-cut : goal.returns-in_err-find_all-clause-cut
 returns-in_err-find_all-clause-cut c starved =
-    cut_one c.args.field.now c.find_all.new.field (listed c.find_all.result) c.requires.idle.tame c.requires.idle.tidy (quiet_find c.args.field.now c.find_all.new.field (listed c.find_all.result) c.find_all.ensures.turns) c.find_all.ensures.crowd c.find_all.ensures.lost
+    cut_one c.args.field.now c.find_all.new.field (listed c.find_all.result) c.requires.idle.tame c.requires.idle.tidy
+    (quiet_find c.args.field.now c.find_all.new.field (listed c.find_all.result) c.find_all.ensures.turns) c.find_all.ensures.crowd c.find_all.ensures.lost
 
 pub returns-in_err-others-clause-cut : goal.returns-in_err-others-clause-cut
 returns-in_err-others-clause-cut c starved =
     let well : listed c.find_all.result ≡ Ok c.in_ok-find_all.field-0.items = ap listed (c.in_ok-find_all.was) in
     let lit : c.find_all.new.field.lit ≡ true = let P : Result (List Picked) PollFault → Type 0 = λ r. LeavesLit r c.find_all.new.field in subst P well c.find_all.ensures.lit in
-    cut_both c.args.field.now c.find_all.new.field (listed c.find_all.result) c.requires.idle.tame c.requires.idle.tidy (quiet_find c.args.field.now c.find_all.new.field (listed c.find_all.result) c.find_all.ensures.turns) c.find_all.ensures.crowd c.find_all.ensures.lost
-    c.in_ok-find_all.field-0.items well c.inventory_one.new.field c.inventory_one.result (quiet_inventory c.find_all.new.field c.inventory_one.new.field c.inventory_one.result (c.inventory_one.ensures.turns lit)) (c.inventory_one.ensures.cause lit) c.inventory_one.ensures.lost lit
+    cut_both c.args.field.now c.find_all.new.field (listed c.find_all.result) c.requires.idle.tame c.requires.idle.tidy
+    (quiet_find c.args.field.now c.find_all.new.field (listed c.find_all.result) c.find_all.ensures.turns) c.find_all.ensures.crowd c.find_all.ensures.lost
+    c.in_ok-find_all.field-0.items well c.inventory_one.new.field c.inventory_one.result (quiet_inventory c.find_all.new.field c.inventory_one.new.field c.inventory_one.result
+    (c.inventory_one.ensures.turns lit)) (c.inventory_one.ensures.cause lit) c.inventory_one.ensures.lost lit

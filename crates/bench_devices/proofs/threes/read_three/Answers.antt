@@ -10,10 +10,12 @@ on-link-requires c = record { tag = has_three_tag c.args.field.now c.args.place 
 
 pub returns-clause-tells : goal.returns-clause-tells
 returns-clause-tells c =
-    given_back (λ a b n. ReadsThreeAt c.args.id (moment a) (moment b) n c.read_behind.result) c.on-link.result.field.now c.read_behind.new.link.field.now c.args.field.now _ c.on-link.result.place c.args.place
+    given_back (λ a b n. ReadsThreeAt c.args.id (moment a) (moment b) n c.read_behind.result) c.on-link.result.field.now c.read_behind.new.link.field.now c.args.field.now _ c.on-link.result.place
+    c.args.place
     (search rules) (search rules) (search rules) c.read_behind.ensures.tells
 
 pub returns-clause-cut : goal.returns-clause-cut
 returns-clause-cut c =
-    given_back (λ a b n. CutThreeAt c.args.id (moment a) (moment b) n c.read_behind.result) c.on-link.result.field.now c.read_behind.new.link.field.now c.args.field.now _ c.on-link.result.place c.args.place
+    given_back (λ a b n. CutThreeAt c.args.id (moment a) (moment b) n c.read_behind.result) c.on-link.result.field.now c.read_behind.new.link.field.now c.args.field.now _ c.on-link.result.place
+    c.args.place
     (search rules) (search rules) (search rules) c.read_behind.ensures.cut

@@ -11,8 +11,10 @@ write3-requires-clause-of c = new_three_of (seen_plain c.args.link.now) c.requir
 
 pub returns-clause-tells : goal.returns-clause-tells
 returns-clause-tells c =
-    ends_written (seen_plain c.args.link.now) c.requires.fresh c.args.id c.args.message.now (seen_plain c.write3.new.link) c.write3.ensures.moves c.write3.result c.write3.ensures.told c.write3.ensures.law c.write3.ensures.asked
+    ends_written (seen_plain c.args.link.now) c.requires.fresh c.args.id c.args.message.now (seen_plain c.write3.new.link) c.write3.ensures.moves c.write3.result c.write3.ensures.told
+    c.write3.ensures.law c.write3.ensures.asked
 
 pub returns-clause-cut : goal.returns-clause-cut
 returns-clause-cut c =
-    ends_write_cut (seen_plain c.args.link.now) c.requires.fresh c.args.id c.args.message.now (seen_plain c.write3.new.link) c.write3.ensures.moves c.write3.result c.write3.ensures.told c.write3.ensures.law c.write3.ensures.asked
+    ends_write_cut (seen_plain c.args.link.now) c.requires.fresh c.args.id c.args.message.now (seen_plain c.write3.new.link) c.write3.ensures.moves c.write3.result c.write3.ensures.told
+    c.write3.ensures.law c.write3.ensures.asked

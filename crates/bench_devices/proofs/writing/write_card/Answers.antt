@@ -4,7 +4,8 @@ use Rattle.bench_devices.proofs.writes.CardWriting.{ends_linked, ends_unanswered
 use Rattle.bench_devices.proofs.writing.write_card.Goals as goal
 
 pub write_linked-requires-clause-tag : goal.write_linked-requires-clause-tag
-write_linked-requires-clause-tag c = (c.requires.0, link_is c.args.field.now c.args.place c.requires c.in-Ok.link (opened_at c.args.field.now c.args.place c.in-Ok.link c.in-Ok.ensures.turns) c.in-Ok.ensures.ok)
+write_linked-requires-clause-tag c =
+    (c.requires.0, link_is c.args.field.now c.args.place c.requires c.in-Ok.link (opened_at c.args.field.now c.args.place c.in-Ok.link c.in-Ok.ensures.turns) c.in-Ok.ensures.ok)
 
 pub write_linked-requires-clause-fresh : goal.write_linked-requires-clause-fresh
 write_linked-requires-clause-fresh c = opened_fresh c.args.field.now c.args.place c.in-Ok.link c.in-Ok.ensures.turns

@@ -12,10 +12,12 @@ on-link-requires c =
 
 pub returns-clause-tells : goal.returns-clause-tells
 returns-clause-tells c =
-    given_back (λ a b n. WritesAt (moment a) (moment b) n c.args.message.now c.write_by.result) c.on-link.result.field.now c.write_by.new.link.field.now c.args.field.now _ c.on-link.result.place c.args.place
+    given_back (λ a b n. WritesAt (moment a) (moment b) n c.args.message.now c.write_by.result) c.on-link.result.field.now c.write_by.new.link.field.now c.args.field.now _ c.on-link.result.place
+    c.args.place
     (search rules) (search rules) (search rules) c.write_by.ensures.tells
 
 pub returns-clause-cut : goal.returns-clause-cut
 returns-clause-cut c =
-    given_back (λ a b n. CutAtWrite (moment a) (moment b) n c.args.message.now c.write_by.result) c.on-link.result.field.now c.write_by.new.link.field.now c.args.field.now _ c.on-link.result.place c.args.place
+    given_back (λ a b n. CutAtWrite (moment a) (moment b) n c.args.message.now c.write_by.result) c.on-link.result.field.now c.write_by.new.link.field.now c.args.field.now _ c.on-link.result.place
+    c.args.place
     (search rules) (search rules) (search rules) c.write_by.ensures.cut

@@ -22,7 +22,8 @@ of_each (Err e) A B P f = tt
 
 pub returns-in_default-take_link-clause-ok : goal.returns-in_default-take_link-clause-ok
 returns-in_default-take_link-clause-ok c = λ x asks may.
-    nowhere c.args.machines.now c.take_link.new.machines c.requires.settled (c.in_default-take_link.ensures.none refl).0 (c.in_default-take_link.ensures.none refl).1 c.args.joins x (asking_of c.args.request.now) asks may
+    nowhere c.args.machines.now c.take_link.new.machines c.requires.settled (c.in_default-take_link.ensures.none refl).0 (c.in_default-take_link.ensures.none refl).1 c.args.joins x
+    (asking_of c.args.request.now) asks may
 
 pub returns-in-Err-clause-ok : goal.returns-in-Err-clause-ok
 returns-in-Err-clause-ok c =
@@ -36,10 +37,13 @@ returns-in-Err-clause-ok c =
     let same : c.args.joins ≡ joins = search rules in
     let counts : c.in-Some.on.far.numbers ≡ joins.far = search rules in
     let left : c.put_down.new.machines ≡ put_down (under mid.ends mid.peers mid.link c.call_on.new.field) c.in-Some.on.place c.call_on.new.far.end = search rules in
-    subst (λ r. IfOk r (λ a. (x : Command) → asked_on_link x ≡ Some (asking_of c.args.request.now) → Accepts (state_at c.args.machines.now) x → ObeyedBy c.args.joins c.args.machines.now c.put_down.new.machines x a)) (sym c.fault_told.ensures)
-    (of_each (fault_told c.in-Err.fault) (λ x. asked_on_link x ≡ Some (asking_of c.args.request.now)) (Accepts (state_at c.args.machines.now)) (λ a x. ObeyedBy c.args.joins c.args.machines.now c.put_down.new.machines x a)
+    subst (λ r. IfOk r (λ a. (x : Command) → asked_on_link x ≡ Some (asking_of c.args.request.now) → Accepts (state_at c.args.machines.now) x
+    → ObeyedBy c.args.joins c.args.machines.now c.put_down.new.machines x a)) (sym c.fault_told.ensures)
+    (of_each (fault_told c.in-Err.fault) (λ x. asked_on_link x ≡ Some (asking_of c.args.request.now)) (Accepts (state_at c.args.machines.now))
+    (λ a x. ObeyedBy c.args.joins c.args.machines.now c.put_down.new.machines x a)
     (λ x asks may. subst (λ j. IfOk (fault_told c.in-Err.fault) (λ a. ObeyedBy j c.args.machines.now c.put_down.new.machines x a)) (sym same)
-    (asked_told c.args.machines.now mid c.requires.settled c.in-Some.on.place l c.in-Some.on.far t joins counts c.call_on.new.field c.call_on.new.initiator c.call_on.new.far c.call_on.new.client.llc c.call_on.new.client.slots x may c.put_down.new.machines c.args.request.now c.in-Err.fault asks left c.in-Err.ensures.called)))
+    (asked_told c.args.machines.now mid c.requires.settled c.in-Some.on.place l c.in-Some.on.far t joins counts c.call_on.new.field c.call_on.new.initiator c.call_on.new.far c.call_on.new.client.llc
+    c.call_on.new.client.slots x may c.put_down.new.machines c.args.request.now c.in-Err.fault asks left c.in-Err.ensures.called)))
 
 pub returns-in-Err-clause-cut : goal.returns-in-Err-clause-cut
 returns-in-Err-clause-cut c = λ err x asks may.
@@ -54,7 +58,8 @@ returns-in-Err-clause-cut c = λ err x asks may.
     let counts : c.in-Some.on.far.numbers ≡ joins.far = search rules in
     let left : c.put_down.new.machines ≡ put_down (under mid.ends mid.peers mid.link c.call_on.new.field) c.in-Some.on.place c.call_on.new.far.end = search rules in
     subst (λ j. IsCutOffBy j c.args.machines.now c.put_down.new.machines x) (sym same)
-    (asked_cut c.args.machines.now mid c.requires.settled c.in-Some.on.place l c.in-Some.on.far t joins counts c.call_on.new.field c.call_on.new.initiator c.call_on.new.far c.call_on.new.client.llc c.call_on.new.client.slots x may c.put_down.new.machines c.args.request.now c.in-Err.fault asks left c.in-Err.ensures.called (subst IsErr c.fault_told.ensures err))
+    (asked_cut c.args.machines.now mid c.requires.settled c.in-Some.on.place l c.in-Some.on.far t joins counts c.call_on.new.field c.call_on.new.initiator c.call_on.new.far c.call_on.new.client.llc
+    c.call_on.new.client.slots x may c.put_down.new.machines c.args.request.now c.in-Err.fault asks left c.in-Err.ensures.called (subst IsErr c.fault_told.ensures err))
 
 pub returns-then-closes-clause-ok : goal.returns-then-closes-clause-ok
 returns-then-closes-clause-ok c = λ x asks may.
@@ -69,7 +74,8 @@ returns-then-closes-clause-ok c = λ x asks may.
     let counts : c.in-Some.on.far.numbers ≡ joins.far = search rules in
     let left : c.put_down-then-closes.new.machines ≡ put_down (under mid.ends mid.peers mid.link c.call_on.new.field) c.in-Some.on.place c.call_on.new.far.end = search rules in
     subst (λ j. ObeyedBy j c.args.machines.now c.put_down-then-closes.new.machines x answers.Unlinked) (sym same)
-    (asked_closed c.args.machines.now mid c.requires.settled c.in-Some.on.place l c.in-Some.on.far t joins counts c.call_on.new.field c.call_on.new.initiator c.call_on.new.far c.call_on.new.client.llc c.call_on.new.client.slots x may c.put_down-then-closes.new.machines c.args.request.now c.in-Ok-call_on.ending asks (search rules) left c.in-Ok-call_on.ensures.called)
+    (asked_closed c.args.machines.now mid c.requires.settled c.in-Some.on.place l c.in-Some.on.far t joins counts c.call_on.new.field c.call_on.new.initiator c.call_on.new.far c.call_on.new.client.llc
+    c.call_on.new.client.slots x may c.put_down-then-closes.new.machines c.args.request.now c.in-Ok-call_on.ending asks (search rules) left c.in-Ok-call_on.ensures.called)
 
 pub returns-else-closes-clause-ok : goal.returns-else-closes-clause-ok
 returns-else-closes-clause-ok c = λ x asks may.
@@ -86,4 +92,6 @@ returns-else-closes-clause-ok c = λ x asks may.
     (record { peer = l.peer; initiator = c.call_on.new.initiator; client = c.call_on.new.client.llc; slots = c.call_on.new.client.slots }) = search rules in
     subst (λ j. ObeyedBy j c.args.machines.now c.put_back.new.machines x c.answer_to-answer.result) (sym same)
     (subst (λ a. ObeyedBy joins c.args.machines.now c.put_back.new.machines x a) (sym c.answer_to-answer.ensures)
-    (asked_ended c.args.machines.now mid c.requires.settled c.in-Some.on.place l c.in-Some.on.far t joins counts c.call_on.new.field c.call_on.new.initiator c.call_on.new.far c.call_on.new.client.llc c.call_on.new.client.slots x may c.put_back.new.machines c.args.request.now c.in-Ok-call_on.ending asks (search rules) c.requires.may c.in-Some.ensures.rest left c.in-Ok-call_on.ensures.called))
+    (asked_ended c.args.machines.now mid c.requires.settled c.in-Some.on.place l c.in-Some.on.far t joins counts c.call_on.new.field c.call_on.new.initiator c.call_on.new.far c.call_on.new.client.llc
+    c.call_on.new.client.slots x may c.put_back.new.machines c.args.request.now c.in-Ok-call_on.ending asks (search rules) c.requires.may c.in-Some.ensures.rest left
+    c.in-Ok-call_on.ensures.called))

@@ -27,7 +27,8 @@ returns-in_default-clause-cut c =
     let counts : List ℕ = c.args.joins.far in
     let J : Joins = record { own = []; far = counts } in
     let C : Machines → Type 0 = λ m. ForgeStops J (state_at m) (Forge c.args.id.now c.args.payloads.now) c.select.new.field.trace (state_at (upon old c.select.new.field)) in
-    let part : SelectionCut (A c.args.id.now) (moment old.air) (moment c.select.new.field) = subst (λ i. SelectionCut (A i) (moment old.air) (moment c.select.new.field)) c.copy.ensures c.in_default.ensures.cut in
+    let part : SelectionCut (A c.args.id.now) (moment old.air) (moment c.select.new.field) =
+    subst (λ i. SelectionCut (A i) (moment old.air) (moment c.select.new.field)) c.copy.ensures c.in_default.ensures.cut in
     subst C c.machines.view_is (here_cut old settled unlinked c.args.id.now c.args.payloads.now counts c.requires.payloads c.select.new.field part)
 
 pub returns-in-Missed-clause-ok : goal.returns-in-Missed-clause-ok
@@ -38,9 +39,12 @@ returns-in-Missed-clause-ok c =
     let counts : List ℕ = c.args.joins.far in
     let J : Joins = record { own = []; far = counts } in
     let S : Selection → Type 0 = λ s. SelectsTo (A c.copy.result) s (moment old.air) (moment c.select.new.field) in
-    let s : Selects (A c.args.id.now) (Err c.in-Missed.fault) (moment old.air) (moment c.select.new.field) = subst (λ i. Selects (A i) (Err c.in-Missed.fault) (moment old.air) (moment c.select.new.field)) c.copy.ensures (subst S c.in-Missed.is c.in-Ok.ensures.ok) in
-    if_ok c.not_found.result (λ answer. poll_answer c.in-Missed.fault ≡ Some answer) (λ answer. ObeyedBy J c.args.machines.now (upon old c.select.new.field) (Forge c.args.id.now c.args.payloads.now) answer)
-    (λ answer is. subst (λ m. ObeyedBy J m (upon old c.select.new.field) (Forge c.args.id.now c.args.payloads.now) answer) c.machines.view_is (here_missed old settled unlinked c.args.id.now c.args.payloads.now counts c.requires.payloads c.select.new.field c.in-Missed.fault answer s is)) c.not_found.ensures.told
+    let s : Selects (A c.args.id.now) (Err c.in-Missed.fault) (moment old.air) (moment c.select.new.field) =
+    subst (λ i. Selects (A i) (Err c.in-Missed.fault) (moment old.air) (moment c.select.new.field)) c.copy.ensures (subst S c.in-Missed.is c.in-Ok.ensures.ok) in
+    if_ok c.not_found.result (λ answer. poll_answer c.in-Missed.fault ≡ Some answer) (λ answer. ObeyedBy J c.args.machines.now (upon old c.select.new.field) (Forge c.args.id.now c.args.payloads.now)
+    answer)
+    (λ answer is. subst (λ m. ObeyedBy J m (upon old c.select.new.field) (Forge c.args.id.now c.args.payloads.now) answer) c.machines.view_is
+    (here_missed old settled unlinked c.args.id.now c.args.payloads.now counts c.requires.payloads c.select.new.field c.in-Missed.fault answer s is)) c.not_found.ensures.told
 
 pub returns-in-Missed-clause-cut : goal.returns-in-Missed-clause-cut
 returns-in-Missed-clause-cut c =
@@ -50,9 +54,12 @@ returns-in-Missed-clause-cut c =
     let counts : List ℕ = c.args.joins.far in
     let J : Joins = record { own = []; far = counts } in
     let S : Selection → Type 0 = λ s. SelectsTo (A c.copy.result) s (moment old.air) (moment c.select.new.field) in
-    let s : Selects (A c.args.id.now) (Err c.in-Missed.fault) (moment old.air) (moment c.select.new.field) = subst (λ i. Selects (A i) (Err c.in-Missed.fault) (moment old.air) (moment c.select.new.field)) c.copy.ensures (subst S c.in-Missed.is c.in-Ok.ensures.ok) in
+    let s : Selects (A c.args.id.now) (Err c.in-Missed.fault) (moment old.air) (moment c.select.new.field) =
+    subst (λ i. Selects (A i) (Err c.in-Missed.fault) (moment old.air) (moment c.select.new.field)) c.copy.ensures (subst S c.in-Missed.is c.in-Ok.ensures.ok) in
     let C : Machines → Type 0 = λ m. ForgeStops J (state_at m) (Forge c.args.id.now c.args.payloads.now) c.select.new.field.trace (state_at (upon old c.select.new.field)) in
-    on_err c.not_found.result (subst C c.machines.view_is (here_cut old settled unlinked c.args.id.now c.args.payloads.now counts c.requires.payloads c.select.new.field (missed_part (moment old.air) (moment c.select.new.field) (A c.args.id.now) c.in-Missed.fault s)))
+    on_err c.not_found.result
+    (subst C c.machines.view_is (here_cut old settled unlinked c.args.id.now c.args.payloads.now counts c.requires.payloads c.select.new.field
+    (missed_part (moment old.air) (moment c.select.new.field) (A c.args.id.now) c.in-Missed.fault s)))
 
 pub returns-then-is_tag-clause-ok : goal.returns-then-is_tag-clause-ok
 returns-then-is_tag-clause-ok c =
@@ -62,10 +69,12 @@ returns-then-is_tag-clause-ok c =
     let counts : List ℕ = c.args.joins.far in
     let J : Joins = record { own = []; far = counts } in
     let S : Selection → Type 0 = λ s. SelectsTo (A c.copy.result) s (moment old.air) (moment c.select.new.field) in
-    let s : SelectsAt (A c.args.id.now) c.in-Place.place (moment old.air) (moment c.select.new.field) = subst (λ i. SelectsAt (A i) c.in-Place.place (moment old.air) (moment c.select.new.field)) c.copy.ensures (subst S c.in-Place.is c.in-Ok.ensures.ok) in
+    let s : SelectsAt (A c.args.id.now) c.in-Place.place (moment old.air) (moment c.select.new.field) =
+    subst (λ i. SelectsAt (A i) c.in-Place.place (moment old.air) (moment c.select.new.field)) c.copy.ensures (subst S c.in-Place.is c.in-Ok.ensures.ok) in
     let found = looked_at c.select.new.field c.in-Place.place s.device s.stands c.devices.result.now c.index-devices-place.result c.devices.ensures c.index-devices-place.is in
     let tag : is_tag s.device ≡ true = sym (ap is_tag found) ∙ sym c.is_tag.ensures ∙ c.if-is_tag.true in
-    subst (λ m. ObeyedBy J m (upon old c.select.new.field) (Forge c.args.id.now c.args.payloads.now) answers.WrongKind) c.machines.view_is (here_tag old settled unlinked c.args.id.now c.args.payloads.now counts c.requires.payloads c.select.new.field c.in-Place.place s tag)
+    subst (λ m. ObeyedBy J m (upon old c.select.new.field) (Forge c.args.id.now c.args.payloads.now) answers.WrongKind) c.machines.view_is
+    (here_tag old settled unlinked c.args.id.now c.args.payloads.now counts c.requires.payloads c.select.new.field c.in-Place.place s tag)
 
 pub send_to-requires-clause-stands : goal.send_to-requires-clause-stands
 send_to-requires-clause-stands c =
@@ -75,7 +84,8 @@ send_to-requires-clause-stands c =
     let counts : List ℕ = c.args.joins.far in
     let J : Joins = record { own = []; far = counts } in
     let S : Selection → Type 0 = λ s. SelectsTo (A c.copy.result) s (moment old.air) (moment c.select.new.field) in
-    let s : SelectsAt (A c.args.id.now) c.in-Place.place (moment old.air) (moment c.select.new.field) = subst (λ i. SelectsAt (A i) c.in-Place.place (moment old.air) (moment c.select.new.field)) c.copy.ensures (subst S c.in-Place.is c.in-Ok.ensures.ok) in
+    let s : SelectsAt (A c.args.id.now) c.in-Place.place (moment old.air) (moment c.select.new.field) =
+    subst (λ i. SelectsAt (A i) c.in-Place.place (moment old.air) (moment c.select.new.field)) c.copy.ensures (subst S c.in-Place.is c.in-Ok.ensures.ok) in
     let found = looked_at c.select.new.field c.in-Place.place s.device s.stands c.devices.result.now c.index-devices-place.result c.devices.ensures c.index-devices-place.is in
     let peer : is_tag s.device ≡ false = sym (ap is_tag found) ∙ sym c.is_tag.ensures ∙ c.if-is_tag.false in
     (s.device, s.stands, peer)
@@ -88,7 +98,8 @@ send_to-requires-clause-served c =
     let counts : List ℕ = c.args.joins.far in
     let J : Joins = record { own = []; far = counts } in
     let S : Selection → Type 0 = λ s. SelectsTo (A c.copy.result) s (moment old.air) (moment c.select.new.field) in
-    let s : SelectsAt (A c.args.id.now) c.in-Place.place (moment old.air) (moment c.select.new.field) = subst (λ i. SelectsAt (A i) c.in-Place.place (moment old.air) (moment c.select.new.field)) c.copy.ensures (subst S c.in-Place.is c.in-Ok.ensures.ok) in
+    let s : SelectsAt (A c.args.id.now) c.in-Place.place (moment old.air) (moment c.select.new.field) =
+    subst (λ i. SelectsAt (A i) c.in-Place.place (moment old.air) (moment c.select.new.field)) c.copy.ensures (subst S c.in-Place.is c.in-Ok.ensures.ok) in
     let found = looked_at c.select.new.field c.in-Place.place s.device s.stands c.devices.result.now c.index-devices-place.result c.devices.ensures c.index-devices-place.is in
     let peer : is_tag s.device ≡ false = sym (ap is_tag found) ∙ sym c.is_tag.ensures ∙ c.if-is_tag.false in
     here_served old settled unlinked c.args.id.now c.args.payloads.now counts c.requires.payloads c.select.new.field c.in-Place.place s peer
@@ -101,10 +112,12 @@ returns-clause-ok c =
     let counts : List ℕ = c.joins.inside.far in
     let J : Joins = record { own = []; far = counts } in
     let S : Selection → Type 0 = λ s. SelectsTo (A c.copy.result) s (moment old.air) (moment c.select.new.field) in
-    let s : SelectsAt (A c.args.id.now) c.in-Place.place (moment old.air) (moment c.select.new.field) = subst (λ i. SelectsAt (A i) c.in-Place.place (moment old.air) (moment c.select.new.field)) c.copy.ensures (subst S c.in-Place.is c.in-Ok.ensures.ok) in
+    let s : SelectsAt (A c.args.id.now) c.in-Place.place (moment old.air) (moment c.select.new.field) =
+    subst (λ i. SelectsAt (A i) c.in-Place.place (moment old.air) (moment c.select.new.field)) c.copy.ensures (subst S c.in-Place.is c.in-Ok.ensures.ok) in
     let found = looked_at c.select.new.field c.in-Place.place s.device s.stands c.devices.result.now c.index-devices-place.result c.devices.ensures c.index-devices-place.is in
     let peer : is_tag s.device ≡ false = sym (ap is_tag found) ∙ sym c.is_tag.ensures ∙ c.if-is_tag.false in
-    let sent = here_sent old settled unlinked c.args.id.now c.args.payloads.now counts c.requires.payloads c.select.new.field c.in-Place.place s peer c.send_to.result c.send_to.new.machines c.send_to.ensures in
+    let sent = here_sent old settled unlinked c.args.id.now c.args.payloads.now counts c.requires.payloads c.select.new.field c.in-Place.place s peer c.send_to.result c.send_to.new.machines
+    c.send_to.ensures in
     let T : Joins → Type 0 = λ j. IfOk c.send_to.result (λ a. ObeyedBy (record { own = []; far = j.far }) c.args.machines.now c.send_to.new.machines (Forge c.args.id.now c.args.payloads.now) a) in
     subst T c.joins.view_is (subst (λ m. IfOk c.send_to.result (λ a. ObeyedBy J m c.send_to.new.machines (Forge c.args.id.now c.args.payloads.now) a)) c.machines.view_is sent.0)
 
@@ -116,12 +129,18 @@ returns-clause-cut c =
     let counts : List ℕ = c.joins.inside.far in
     let J : Joins = record { own = []; far = counts } in
     let S : Selection → Type 0 = λ s. SelectsTo (A c.copy.result) s (moment old.air) (moment c.select.new.field) in
-    let s : SelectsAt (A c.args.id.now) c.in-Place.place (moment old.air) (moment c.select.new.field) = subst (λ i. SelectsAt (A i) c.in-Place.place (moment old.air) (moment c.select.new.field)) c.copy.ensures (subst S c.in-Place.is c.in-Ok.ensures.ok) in
+    let s : SelectsAt (A c.args.id.now) c.in-Place.place (moment old.air) (moment c.select.new.field) =
+    subst (λ i. SelectsAt (A i) c.in-Place.place (moment old.air) (moment c.select.new.field)) c.copy.ensures (subst S c.in-Place.is c.in-Ok.ensures.ok) in
     let found = looked_at c.select.new.field c.in-Place.place s.device s.stands c.devices.result.now c.index-devices-place.result c.devices.ensures c.index-devices-place.is in
     let peer : is_tag s.device ≡ false = sym (ap is_tag found) ∙ sym c.is_tag.ensures ∙ c.if-is_tag.false in
-    let sent = here_sent old settled unlinked c.args.id.now c.args.payloads.now counts c.requires.payloads c.select.new.field c.in-Place.place s peer c.send_to.result c.send_to.new.machines c.send_to.ensures in
-    let stops : Joins → Machines → Type 0 = λ j m. OnErr c.send_to.result (ForgeStops (record { own = []; far = j.far }) (state_at m) (Forge c.args.id.now c.args.payloads.now) c.send_to.new.machines.air.trace (state_at c.send_to.new.machines)) in
-    subst (λ j. stops j c.args.machines.now) c.joins.view_is (subst (λ m. OnErr c.send_to.result (ForgeStops J (state_at m) (Forge c.args.id.now c.args.payloads.now) c.send_to.new.machines.air.trace (state_at c.send_to.new.machines))) c.machines.view_is sent.1)
+    let sent = here_sent old settled unlinked c.args.id.now c.args.payloads.now counts c.requires.payloads c.select.new.field c.in-Place.place s peer c.send_to.result c.send_to.new.machines
+    c.send_to.ensures in
+    let stops : Joins → Machines → Type 0 =
+    λ j m. OnErr c.send_to.result (ForgeStops (record { own = []; far = j.far }) (state_at m) (Forge c.args.id.now c.args.payloads.now) c.send_to.new.machines.air.trace
+    (state_at c.send_to.new.machines)) in
+    subst (λ j. stops j c.args.machines.now) c.joins.view_is
+    (subst (λ m. OnErr c.send_to.result (ForgeStops J (state_at m) (Forge c.args.id.now c.args.payloads.now) c.send_to.new.machines.air.trace (state_at c.send_to.new.machines))) c.machines.view_is
+    sent.1)
 
 pub returns-clause-memory : goal.returns-clause-memory
 returns-clause-memory c =
@@ -131,8 +150,10 @@ returns-clause-memory c =
     let counts : List ℕ = c.joins.inside.far in
     let J : Joins = record { own = []; far = counts } in
     let S : Selection → Type 0 = λ s. SelectsTo (A c.copy.result) s (moment old.air) (moment c.select.new.field) in
-    let s : SelectsAt (A c.args.id.now) c.in-Place.place (moment old.air) (moment c.select.new.field) = subst (λ i. SelectsAt (A i) c.in-Place.place (moment old.air) (moment c.select.new.field)) c.copy.ensures (subst S c.in-Place.is c.in-Ok.ensures.ok) in
+    let s : SelectsAt (A c.args.id.now) c.in-Place.place (moment old.air) (moment c.select.new.field) =
+    subst (λ i. SelectsAt (A i) c.in-Place.place (moment old.air) (moment c.select.new.field)) c.copy.ensures (subst S c.in-Place.is c.in-Ok.ensures.ok) in
     let found = looked_at c.select.new.field c.in-Place.place s.device s.stands c.devices.result.now c.index-devices-place.result c.devices.ensures c.index-devices-place.is in
     let peer : is_tag s.device ≡ false = sym (ap is_tag found) ∙ sym c.is_tag.ensures ∙ c.if-is_tag.false in
-    let sent = here_sent old settled unlinked c.args.id.now c.args.payloads.now counts c.requires.payloads c.select.new.field c.in-Place.place s peer c.send_to.result c.send_to.new.machines c.send_to.ensures in
+    let sent = here_sent old settled unlinked c.args.id.now c.args.payloads.now counts c.requires.payloads c.select.new.field c.in-Place.place s peer c.send_to.result c.send_to.new.machines
+    c.send_to.ensures in
     sent.2

@@ -11,21 +11,26 @@ use Rattle.bench_world.proofs.forging.send_all.Goals as goal
 pub exchange_all-requires-clause-open_ : goal.exchange_all-requires-clause-open_
 exchange_all-requires-clause-open_ c =
     let bytes : c.deref.result.now ≡ forged_general = c.deref.ensures.0 ∙ c.general_write-general.ensures.bytes ∙ ap general_bytes c.own_params.ensures in
-    let O : List ℕ → Type 0 = λ xs. OpensAny (RestartsCounted serving) (AnswersCounted serving) c.args.field.now c.args.far.now c.open_link.new.field c.open_link.new.far xs (by_cause c.open_link.result) in
+    let O : List ℕ → Type 0 = λ xs. OpensAny (RestartsCounted serving) (AnswersCounted serving) c.args.field.now c.args.far.now c.open_link.new.field c.open_link.new.far xs
+    (by_cause c.open_link.result) in
     let asks : O forged_general = subst O bytes c.open_link.ensures.tells in
-    open_from c.args.field.now c.open_link.new.field c.args.far.now c.open_link.new.far c.open_link.result asks c.in-Ok.initiator c.in-Ok._general c.in-Ok.is c.requires.stands.0 c.requires.stands.1 c.requires.stands.2 c.requires.stands.3
+    open_from c.args.field.now c.open_link.new.field c.args.far.now c.open_link.new.far c.open_link.result asks c.in-Ok.initiator c.in-Ok._general c.in-Ok.is c.requires.stands.0 c.requires.stands.1
+    c.requires.stands.2 c.requires.stands.3
 
 pub returns-in-Ok : goal.returns-in-Ok
 returns-in-Ok c =
     let bytes : c.deref.result.now ≡ forged_general = c.deref.ensures.0 ∙ c.general_write-general.ensures.bytes ∙ ap general_bytes c.own_params.ensures in
-    let O : List ℕ → Type 0 = λ xs. OpensAny (RestartsCounted serving) (AnswersCounted serving) c.args.field.now c.args.far.now c.open_link.new.field c.open_link.new.far xs (by_cause c.open_link.result) in
+    let O : List ℕ → Type 0 = λ xs. OpensAny (RestartsCounted serving) (AnswersCounted serving) c.args.field.now c.args.far.now c.open_link.new.field c.open_link.new.far xs
+    (by_cause c.open_link.result) in
     let asks : O forged_general = subst O bytes c.open_link.ensures.tells in
-    sends_ok c.args.field.now c.open_link.new.field c.args.far.now c.open_link.new.far c.open_link.result asks c.in-Ok.initiator c.in-Ok._general c.in-Ok.is c.args.payloads.now c.exchange_all.new.field c.exchange_all.new.initiator c.exchange_all.new.far c.exchange_all.result
+    sends_ok c.args.field.now c.open_link.new.field c.args.far.now c.open_link.new.far c.open_link.result asks c.in-Ok.initiator c.in-Ok._general c.in-Ok.is c.args.payloads.now
+    c.exchange_all.new.field c.exchange_all.new.initiator c.exchange_all.new.far c.exchange_all.result
     c.exchange_all.ensures.ok c.exchange_all.ensures.err
 
 pub returns-in-Err : goal.returns-in-Err
 returns-in-Err c =
     let bytes : c.deref.result.now ≡ forged_general = c.deref.ensures.0 ∙ c.general_write-general.ensures.bytes ∙ ap general_bytes c.own_params.ensures in
-    let O : List ℕ → Type 0 = λ xs. OpensAny (RestartsCounted serving) (AnswersCounted serving) c.args.field.now c.args.far.now c.open_link.new.field c.open_link.new.far xs (by_cause c.open_link.result) in
+    let O : List ℕ → Type 0 = λ xs. OpensAny (RestartsCounted serving) (AnswersCounted serving) c.args.field.now c.args.far.now c.open_link.new.field c.open_link.new.far xs
+    (by_cause c.open_link.result) in
     let asks : O forged_general = subst O bytes c.open_link.ensures.tells in
     sends_err c.args.field.now c.open_link.new.field c.args.far.now c.open_link.new.far c.open_link.result asks c.in-Err.end c.in-Err.is c.args.payloads.now

@@ -25,7 +25,8 @@ returns-in_default-clause-cut c =
     let settled : IsSettled old = subst IsSettled (sym c.machines.view_is) c.requires.settled in
     let unlinked : old.link ≡ None = ap (λ (m : Machines). m.link) c.machines.view_is ∙ c.requires.unlinked in
     let C : Machines → Type 0 = λ m. CutFront no_joins (state_at m) (Link c.args.id.now c.args.miu c.args.rw) c.select.new.field.trace (state_at (upon old c.select.new.field)) in
-    let part : SelectionCut (A c.args.id.now) (moment old.air) (moment c.select.new.field) = subst (λ i. SelectionCut (A i) (moment old.air) (moment c.select.new.field)) c.copy.ensures c.in_default.ensures.cut in
+    let part : SelectionCut (A c.args.id.now) (moment old.air) (moment c.select.new.field) =
+    subst (λ i. SelectionCut (A i) (moment old.air) (moment c.select.new.field)) c.copy.ensures c.in_default.ensures.cut in
     subst C c.machines.view_is (here_cut old settled unlinked c.args.id.now c.args.miu c.args.rw may c.select.new.field part)
 
 pub returns-in-Missed-clause-ok : goal.returns-in-Missed-clause-ok
@@ -35,9 +36,12 @@ returns-in-Missed-clause-ok c =
     let settled : IsSettled old = subst IsSettled (sym c.machines.view_is) c.requires.settled in
     let unlinked : old.link ≡ None = ap (λ (m : Machines). m.link) c.machines.view_is ∙ c.requires.unlinked in
     let S : Selection → Type 0 = λ s. SelectsTo (A c.copy.result) s (moment old.air) (moment c.select.new.field) in
-    let s : Selects (A c.args.id.now) (Err c.in-Missed.fault) (moment old.air) (moment c.select.new.field) = subst (λ i. Selects (A i) (Err c.in-Missed.fault) (moment old.air) (moment c.select.new.field)) c.copy.ensures (subst S c.in-Missed.is c.in-Ok.ensures.ok) in
-    if_ok c.not_found.result (λ answer. poll_answer c.in-Missed.fault ≡ Some answer) (λ answer. Obeyed c.args.machines.now (upon old c.select.new.field) (Link c.args.id.now c.args.miu c.args.rw) answer)
-    (λ answer is. subst (λ m. Obeyed m (upon old c.select.new.field) (Link c.args.id.now c.args.miu c.args.rw) answer) c.machines.view_is (here_missed old settled unlinked c.args.id.now c.args.miu c.args.rw may c.select.new.field c.in-Missed.fault answer s is)) c.not_found.ensures.told
+    let s : Selects (A c.args.id.now) (Err c.in-Missed.fault) (moment old.air) (moment c.select.new.field) =
+    subst (λ i. Selects (A i) (Err c.in-Missed.fault) (moment old.air) (moment c.select.new.field)) c.copy.ensures (subst S c.in-Missed.is c.in-Ok.ensures.ok) in
+    if_ok c.not_found.result (λ answer. poll_answer c.in-Missed.fault ≡ Some answer) (λ answer. Obeyed c.args.machines.now (upon old c.select.new.field) (Link c.args.id.now c.args.miu c.args.rw)
+    answer)
+    (λ answer is. subst (λ m. Obeyed m (upon old c.select.new.field) (Link c.args.id.now c.args.miu c.args.rw) answer) c.machines.view_is
+    (here_missed old settled unlinked c.args.id.now c.args.miu c.args.rw may c.select.new.field c.in-Missed.fault answer s is)) c.not_found.ensures.told
 
 pub returns-in-Missed-clause-cut : goal.returns-in-Missed-clause-cut
 returns-in-Missed-clause-cut c =
@@ -46,9 +50,12 @@ returns-in-Missed-clause-cut c =
     let settled : IsSettled old = subst IsSettled (sym c.machines.view_is) c.requires.settled in
     let unlinked : old.link ≡ None = ap (λ (m : Machines). m.link) c.machines.view_is ∙ c.requires.unlinked in
     let S : Selection → Type 0 = λ s. SelectsTo (A c.copy.result) s (moment old.air) (moment c.select.new.field) in
-    let s : Selects (A c.args.id.now) (Err c.in-Missed.fault) (moment old.air) (moment c.select.new.field) = subst (λ i. Selects (A i) (Err c.in-Missed.fault) (moment old.air) (moment c.select.new.field)) c.copy.ensures (subst S c.in-Missed.is c.in-Ok.ensures.ok) in
+    let s : Selects (A c.args.id.now) (Err c.in-Missed.fault) (moment old.air) (moment c.select.new.field) =
+    subst (λ i. Selects (A i) (Err c.in-Missed.fault) (moment old.air) (moment c.select.new.field)) c.copy.ensures (subst S c.in-Missed.is c.in-Ok.ensures.ok) in
     let C : Machines → Type 0 = λ m. CutFront no_joins (state_at m) (Link c.args.id.now c.args.miu c.args.rw) c.select.new.field.trace (state_at (upon old c.select.new.field)) in
-    on_err c.not_found.result (subst C c.machines.view_is (here_cut old settled unlinked c.args.id.now c.args.miu c.args.rw may c.select.new.field (missed_part (moment old.air) (moment c.select.new.field) (A c.args.id.now) c.in-Missed.fault s)))
+    on_err c.not_found.result
+    (subst C c.machines.view_is (here_cut old settled unlinked c.args.id.now c.args.miu c.args.rw may c.select.new.field
+    (missed_part (moment old.air) (moment c.select.new.field) (A c.args.id.now) c.in-Missed.fault s)))
 
 pub returns-then-is_tag-clause-ok : goal.returns-then-is_tag-clause-ok
 returns-then-is_tag-clause-ok c =
@@ -57,10 +64,12 @@ returns-then-is_tag-clause-ok c =
     let settled : IsSettled old = subst IsSettled (sym c.machines.view_is) c.requires.settled in
     let unlinked : old.link ≡ None = ap (λ (m : Machines). m.link) c.machines.view_is ∙ c.requires.unlinked in
     let S : Selection → Type 0 = λ s. SelectsTo (A c.copy.result) s (moment old.air) (moment c.select.new.field) in
-    let s : SelectsAt (A c.args.id.now) c.in-Place.place (moment old.air) (moment c.select.new.field) = subst (λ i. SelectsAt (A i) c.in-Place.place (moment old.air) (moment c.select.new.field)) c.copy.ensures (subst S c.in-Place.is c.in-Ok.ensures.ok) in
+    let s : SelectsAt (A c.args.id.now) c.in-Place.place (moment old.air) (moment c.select.new.field) =
+    subst (λ i. SelectsAt (A i) c.in-Place.place (moment old.air) (moment c.select.new.field)) c.copy.ensures (subst S c.in-Place.is c.in-Ok.ensures.ok) in
     let found = looked_at c.select.new.field c.in-Place.place s.device s.stands c.devices.result.now c.index-devices-place.result c.devices.ensures c.index-devices-place.is in
     let tag : is_tag s.device ≡ true = sym (ap is_tag found) ∙ sym c.is_tag.ensures ∙ c.if-is_tag.true in
-    subst (λ m. Obeyed m (upon old c.select.new.field) (Link c.args.id.now c.args.miu c.args.rw) answers.WrongKind) c.machines.view_is (here_tag old settled unlinked c.args.id.now c.args.miu c.args.rw may c.select.new.field c.in-Place.place s tag)
+    subst (λ m. Obeyed m (upon old c.select.new.field) (Link c.args.id.now c.args.miu c.args.rw) answers.WrongKind) c.machines.view_is
+    (here_tag old settled unlinked c.args.id.now c.args.miu c.args.rw may c.select.new.field c.in-Place.place s tag)
 
 pub open-requires-clause-served : goal.open-requires-clause-served
 open-requires-clause-served c =
@@ -69,7 +78,8 @@ open-requires-clause-served c =
     let settled : IsSettled old = subst IsSettled (sym c.machines.view_is) c.requires.settled in
     let unlinked : old.link ≡ None = ap (λ (m : Machines). m.link) c.machines.view_is ∙ c.requires.unlinked in
     let S : Selection → Type 0 = λ s. SelectsTo (A c.copy.result) s (moment old.air) (moment c.select.new.field) in
-    let s : SelectsAt (A c.args.id.now) c.in-Place.place (moment old.air) (moment c.select.new.field) = subst (λ i. SelectsAt (A i) c.in-Place.place (moment old.air) (moment c.select.new.field)) c.copy.ensures (subst S c.in-Place.is c.in-Ok.ensures.ok) in
+    let s : SelectsAt (A c.args.id.now) c.in-Place.place (moment old.air) (moment c.select.new.field) =
+    subst (λ i. SelectsAt (A i) c.in-Place.place (moment old.air) (moment c.select.new.field)) c.copy.ensures (subst S c.in-Place.is c.in-Ok.ensures.ok) in
     let found = looked_at c.select.new.field c.in-Place.place s.device s.stands c.devices.result.now c.index-devices-place.result c.devices.ensures c.index-devices-place.is in
     let peer : is_tag s.device ≡ false = sym (ap is_tag found) ∙ sym c.is_tag.ensures ∙ c.if-is_tag.false in
     here_served old settled unlinked c.args.id.now c.args.miu c.args.rw may c.select.new.field c.in-Place.place s peer
@@ -81,10 +91,12 @@ returns-clause-ok c =
     let settled : IsSettled old = subst IsSettled (sym c.machines.view_is) c.requires.settled in
     let unlinked : old.link ≡ None = ap (λ (m : Machines). m.link) c.machines.view_is ∙ c.requires.unlinked in
     let S : Selection → Type 0 = λ s. SelectsTo (A c.copy.result) s (moment old.air) (moment c.select.new.field) in
-    let s : SelectsAt (A c.args.id.now) c.in-Place.place (moment old.air) (moment c.select.new.field) = subst (λ i. SelectsAt (A i) c.in-Place.place (moment old.air) (moment c.select.new.field)) c.copy.ensures (subst S c.in-Place.is c.in-Ok.ensures.ok) in
+    let s : SelectsAt (A c.args.id.now) c.in-Place.place (moment old.air) (moment c.select.new.field) =
+    subst (λ i. SelectsAt (A i) c.in-Place.place (moment old.air) (moment c.select.new.field)) c.copy.ensures (subst S c.in-Place.is c.in-Ok.ensures.ok) in
     let found = looked_at c.select.new.field c.in-Place.place s.device s.stands c.devices.result.now c.index-devices-place.result c.devices.ensures c.index-devices-place.is in
     let peer : is_tag s.device ≡ false = sym (ap is_tag found) ∙ sym c.is_tag.ensures ∙ c.if-is_tag.false in
-    subst (λ m. IfOk c.open.result (λ a. Obeyed m c.open.new.self (Link c.args.id.now c.args.miu c.args.rw) a)) c.machines.view_is (here_opened old settled unlinked c.args.id.now c.args.miu c.args.rw may c.select.new.field c.in-Place.place s peer c.open.result c.open.new.self c.open.ensures).0
+    subst (λ m. IfOk c.open.result (λ a. Obeyed m c.open.new.self (Link c.args.id.now c.args.miu c.args.rw) a)) c.machines.view_is
+    (here_opened old settled unlinked c.args.id.now c.args.miu c.args.rw may c.select.new.field c.in-Place.place s peer c.open.result c.open.new.self c.open.ensures).0
 
 pub returns-clause-cut : goal.returns-clause-cut
 returns-clause-cut c =
@@ -93,10 +105,12 @@ returns-clause-cut c =
     let settled : IsSettled old = subst IsSettled (sym c.machines.view_is) c.requires.settled in
     let unlinked : old.link ≡ None = ap (λ (m : Machines). m.link) c.machines.view_is ∙ c.requires.unlinked in
     let S : Selection → Type 0 = λ s. SelectsTo (A c.copy.result) s (moment old.air) (moment c.select.new.field) in
-    let s : SelectsAt (A c.args.id.now) c.in-Place.place (moment old.air) (moment c.select.new.field) = subst (λ i. SelectsAt (A i) c.in-Place.place (moment old.air) (moment c.select.new.field)) c.copy.ensures (subst S c.in-Place.is c.in-Ok.ensures.ok) in
+    let s : SelectsAt (A c.args.id.now) c.in-Place.place (moment old.air) (moment c.select.new.field) =
+    subst (λ i. SelectsAt (A i) c.in-Place.place (moment old.air) (moment c.select.new.field)) c.copy.ensures (subst S c.in-Place.is c.in-Ok.ensures.ok) in
     let found = looked_at c.select.new.field c.in-Place.place s.device s.stands c.devices.result.now c.index-devices-place.result c.devices.ensures c.index-devices-place.is in
     let peer : is_tag s.device ≡ false = sym (ap is_tag found) ∙ sym c.is_tag.ensures ∙ c.if-is_tag.false in
-    subst (λ m. OnErr c.open.result (CutFront no_joins (state_at m) (Link c.args.id.now c.args.miu c.args.rw) c.open.new.self.air.trace (state_at c.open.new.self))) c.machines.view_is (here_opened old settled unlinked c.args.id.now c.args.miu c.args.rw may c.select.new.field c.in-Place.place s peer c.open.result c.open.new.self c.open.ensures).1
+    subst (λ m. OnErr c.open.result (CutFront no_joins (state_at m) (Link c.args.id.now c.args.miu c.args.rw) c.open.new.self.air.trace (state_at c.open.new.self))) c.machines.view_is
+    (here_opened old settled unlinked c.args.id.now c.args.miu c.args.rw may c.select.new.field c.in-Place.place s peer c.open.result c.open.new.self c.open.ensures).1
 
 pub returns-clause-memory : goal.returns-clause-memory
 returns-clause-memory c =
@@ -105,7 +119,8 @@ returns-clause-memory c =
     let settled : IsSettled old = subst IsSettled (sym c.machines.view_is) c.requires.settled in
     let unlinked : old.link ≡ None = ap (λ (m : Machines). m.link) c.machines.view_is ∙ c.requires.unlinked in
     let S : Selection → Type 0 = λ s. SelectsTo (A c.copy.result) s (moment old.air) (moment c.select.new.field) in
-    let s : SelectsAt (A c.args.id.now) c.in-Place.place (moment old.air) (moment c.select.new.field) = subst (λ i. SelectsAt (A i) c.in-Place.place (moment old.air) (moment c.select.new.field)) c.copy.ensures (subst S c.in-Place.is c.in-Ok.ensures.ok) in
+    let s : SelectsAt (A c.args.id.now) c.in-Place.place (moment old.air) (moment c.select.new.field) =
+    subst (λ i. SelectsAt (A i) c.in-Place.place (moment old.air) (moment c.select.new.field)) c.copy.ensures (subst S c.in-Place.is c.in-Ok.ensures.ok) in
     let found = looked_at c.select.new.field c.in-Place.place s.device s.stands c.devices.result.now c.index-devices-place.result c.devices.ensures c.index-devices-place.is in
     let peer : is_tag s.device ≡ false = sym (ap is_tag found) ∙ sym c.is_tag.ensures ∙ c.if-is_tag.false in
     (here_opened old settled unlinked c.args.id.now c.args.miu c.args.rw may c.select.new.field c.in-Place.place s peer c.open.result c.open.new.self c.open.ensures).2

@@ -39,8 +39,10 @@ returns-in-Missed-clause-ok c =
     let may : MayRaw (state_at old) c.args.id.now c.args.frames.now = subst (λ (m : Machines). MayRaw (state_at m) c.args.id.now c.args.frames.now) (sym c.machines.view_is) c.requires.frames in
     let S : Selection → Type 0 = λ s. SelectsTo c.args.id.now s (moment old.air) (moment c.select.new.field) in
     let s : Selects c.args.id.now (Err c.in-Missed.fault) (moment old.air) (moment c.select.new.field) = subst S c.in-Missed.is c.in-Ok.ensures.ok in
-    if_ok c.not_found.result (λ answer. poll_answer c.in-Missed.fault ≡ Some answer) (λ answer. ObeyedBy J c.args.machines.now (upon old c.select.new.field) (Raw c.args.id.now c.args.frames.now) answer)
-    (λ answer is. subst (λ m. ObeyedBy J m (upon old c.select.new.field) (Raw c.args.id.now c.args.frames.now) answer) c.machines.view_is (here_missed old settled unlinked c.args.id.now c.args.frames.now counts may c.select.new.field c.in-Missed.fault answer s is)) c.not_found.ensures.told
+    if_ok c.not_found.result (λ answer. poll_answer c.in-Missed.fault ≡ Some answer) (λ answer. ObeyedBy J c.args.machines.now (upon old c.select.new.field) (Raw c.args.id.now c.args.frames.now)
+    answer)
+    (λ answer is. subst (λ m. ObeyedBy J m (upon old c.select.new.field) (Raw c.args.id.now c.args.frames.now) answer) c.machines.view_is
+    (here_missed old settled unlinked c.args.id.now c.args.frames.now counts may c.select.new.field c.in-Missed.fault answer s is)) c.not_found.ensures.told
 
 pub returns-in-Missed-clause-cut : goal.returns-in-Missed-clause-cut
 returns-in-Missed-clause-cut c =
@@ -53,7 +55,9 @@ returns-in-Missed-clause-cut c =
     let S : Selection → Type 0 = λ s. SelectsTo c.args.id.now s (moment old.air) (moment c.select.new.field) in
     let s : Selects c.args.id.now (Err c.in-Missed.fault) (moment old.air) (moment c.select.new.field) = subst S c.in-Missed.is c.in-Ok.ensures.ok in
     let C : Machines → Type 0 = λ m. RawStops J (state_at m) (Raw c.args.id.now c.args.frames.now) c.select.new.field.trace (state_at (upon old c.select.new.field)) in
-    on_err c.not_found.result (subst C c.machines.view_is (here_cut old settled unlinked c.args.id.now c.args.frames.now counts may c.select.new.field (missed_part (moment old.air) (moment c.select.new.field) c.args.id.now c.in-Missed.fault s)))
+    on_err c.not_found.result
+    (subst C c.machines.view_is (here_cut old settled unlinked c.args.id.now c.args.frames.now counts may c.select.new.field
+    (missed_part (moment old.air) (moment c.select.new.field) c.args.id.now c.in-Missed.fault s)))
 
 pub send_to_tag-requires-clause-lit : goal.send_to_tag-requires-clause-lit
 send_to_tag-requires-clause-lit c =
@@ -81,7 +85,10 @@ send_to_tag-requires-clause-places c =
     let found = looked_at c.select.new.field c.in-Place.place s.device s.stands c.devices.result.now c.index-devices-place.result c.devices.ensures c.index-devices-place.is in
     let may : MayRaw (state_at old) c.args.id.now c.args.frames.now = subst (λ (m : Machines). MayRaw (state_at m) c.args.id.now c.args.frames.now) (sym c.machines.view_is) c.requires.frames in
     let tag : is_tag s.device ≡ true = sym (ap is_tag found) ∙ sym c.is_tag.ensures ∙ c.if-is_tag.true in
-    λ n at. (here_served old settled unlinked c.args.id.now c.args.frames.now counts may c.select.new.field c.in-Place.place s n at, here_below old settled unlinked c.args.id.now c.args.frames.now counts may c.select.new.field c.in-Place.place s n at)
+    λ n at. (
+      here_served old settled unlinked c.args.id.now c.args.frames.now counts may c.select.new.field c.in-Place.place s n at,
+      here_below old settled unlinked c.args.id.now c.args.frames.now counts may c.select.new.field c.in-Place.place s n at,
+    )
 
 pub send_to_peer-requires-clause-stands : goal.send_to_peer-requires-clause-stands
 send_to_peer-requires-clause-stands c =
@@ -123,7 +130,8 @@ returns-then-is_tag-clause-ok c =
     let found = looked_at c.select.new.field c.in-Place.place s.device s.stands c.devices.result.now c.index-devices-place.result c.devices.ensures c.index-devices-place.is in
     let may : MayRaw (state_at old) c.args.id.now c.args.frames.now = subst (λ (m : Machines). MayRaw (state_at m) c.args.id.now c.args.frames.now) (sym c.machines.view_is) c.requires.frames in
     let tag : is_tag s.device ≡ true = sym (ap is_tag found) ∙ sym c.is_tag.ensures ∙ c.if-is_tag.true in
-    let sent = tag_sent old settled unlinked c.args.id.now c.args.frames.now counts may c.select.new.field c.in-Place.place s tag c.send_to_tag.new.machines c.send_to_tag.result c.send_to_tag.ensures.none c.send_to_tag.ensures.some in
+    let sent = tag_sent old settled unlinked c.args.id.now c.args.frames.now counts may c.select.new.field c.in-Place.place s tag c.send_to_tag.new.machines c.send_to_tag.result
+    c.send_to_tag.ensures.none c.send_to_tag.ensures.some in
     let T : Joins → Type 0 = λ j. IfOk c.send_to_tag.result (λ a. ObeyedBy (record { own = []; far = j.far }) c.args.machines.now c.send_to_tag.new.machines (Raw c.args.id.now c.args.frames.now) a) in
     subst T c.joins.view_is (subst (λ m. IfOk c.send_to_tag.result (λ a. ObeyedBy J m c.send_to_tag.new.machines (Raw c.args.id.now c.args.frames.now) a)) c.machines.view_is sent.0)
 
@@ -139,9 +147,14 @@ returns-then-is_tag-clause-cut c =
     let found = looked_at c.select.new.field c.in-Place.place s.device s.stands c.devices.result.now c.index-devices-place.result c.devices.ensures c.index-devices-place.is in
     let may : MayRaw (state_at old) c.args.id.now c.args.frames.now = subst (λ (m : Machines). MayRaw (state_at m) c.args.id.now c.args.frames.now) (sym c.machines.view_is) c.requires.frames in
     let tag : is_tag s.device ≡ true = sym (ap is_tag found) ∙ sym c.is_tag.ensures ∙ c.if-is_tag.true in
-    let sent = tag_sent old settled unlinked c.args.id.now c.args.frames.now counts may c.select.new.field c.in-Place.place s tag c.send_to_tag.new.machines c.send_to_tag.result c.send_to_tag.ensures.none c.send_to_tag.ensures.some in
-    let stops : Joins → Machines → Type 0 = λ j m. OnErr c.send_to_tag.result (RawStops (record { own = []; far = j.far }) (state_at m) (Raw c.args.id.now c.args.frames.now) c.send_to_tag.new.machines.air.trace (state_at c.send_to_tag.new.machines)) in
-    subst (λ j. stops j c.args.machines.now) c.joins.view_is (subst (λ m. OnErr c.send_to_tag.result (RawStops J (state_at m) (Raw c.args.id.now c.args.frames.now) c.send_to_tag.new.machines.air.trace (state_at c.send_to_tag.new.machines))) c.machines.view_is sent.1)
+    let sent = tag_sent old settled unlinked c.args.id.now c.args.frames.now counts may c.select.new.field c.in-Place.place s tag c.send_to_tag.new.machines c.send_to_tag.result
+    c.send_to_tag.ensures.none c.send_to_tag.ensures.some in
+    let stops : Joins → Machines → Type 0 =
+    λ j m. OnErr c.send_to_tag.result (RawStops (record { own = []; far = j.far }) (state_at m) (Raw c.args.id.now c.args.frames.now) c.send_to_tag.new.machines.air.trace
+    (state_at c.send_to_tag.new.machines)) in
+    subst (λ j. stops j c.args.machines.now) c.joins.view_is
+    (subst (λ m. OnErr c.send_to_tag.result (RawStops J (state_at m) (Raw c.args.id.now c.args.frames.now) c.send_to_tag.new.machines.air.trace (state_at c.send_to_tag.new.machines)))
+    c.machines.view_is sent.1)
 
 pub returns-then-is_tag-clause-memory : goal.returns-then-is_tag-clause-memory
 returns-then-is_tag-clause-memory c =
@@ -155,7 +168,8 @@ returns-then-is_tag-clause-memory c =
     let found = looked_at c.select.new.field c.in-Place.place s.device s.stands c.devices.result.now c.index-devices-place.result c.devices.ensures c.index-devices-place.is in
     let may : MayRaw (state_at old) c.args.id.now c.args.frames.now = subst (λ (m : Machines). MayRaw (state_at m) c.args.id.now c.args.frames.now) (sym c.machines.view_is) c.requires.frames in
     let tag : is_tag s.device ≡ true = sym (ap is_tag found) ∙ sym c.is_tag.ensures ∙ c.if-is_tag.true in
-    let sent = tag_sent old settled unlinked c.args.id.now c.args.frames.now counts may c.select.new.field c.in-Place.place s tag c.send_to_tag.new.machines c.send_to_tag.result c.send_to_tag.ensures.none c.send_to_tag.ensures.some in
+    let sent = tag_sent old settled unlinked c.args.id.now c.args.frames.now counts may c.select.new.field c.in-Place.place s tag c.send_to_tag.new.machines c.send_to_tag.result
+    c.send_to_tag.ensures.none c.send_to_tag.ensures.some in
     sent.2
 
 pub returns-clause-ok : goal.returns-clause-ok
@@ -170,8 +184,11 @@ returns-clause-ok c =
     let found = looked_at c.select.new.field c.in-Place.place s.device s.stands c.devices.result.now c.index-devices-place.result c.devices.ensures c.index-devices-place.is in
     let may : MayRaw (state_at old) c.args.id.now c.args.frames.now = subst (λ (m : Machines). MayRaw (state_at m) c.args.id.now c.args.frames.now) (sym c.machines.view_is) c.requires.frames in
     let peer : is_tag s.device ≡ false = sym (ap is_tag found) ∙ sym c.is_tag.ensures ∙ c.if-is_tag.false in
-    let sent = peer_sent old settled unlinked c.args.id.now c.args.frames.now counts may c.select.new.field c.in-Place.place s peer (peer_served old settled unlinked c.args.id.now c.args.frames.now counts may c.select.new.field c.in-Place.place s peer) c.send_to_peer.result c.send_to_peer.new.machines c.send_to_peer.ensures in
-    let T : Joins → Type 0 = λ j. IfOk c.send_to_peer.result (λ a. ObeyedBy (record { own = []; far = j.far }) c.args.machines.now c.send_to_peer.new.machines (Raw c.args.id.now c.args.frames.now) a) in
+    let sent = peer_sent old settled unlinked c.args.id.now c.args.frames.now counts may c.select.new.field c.in-Place.place s peer
+    (peer_served old settled unlinked c.args.id.now c.args.frames.now counts may c.select.new.field c.in-Place.place s peer) c.send_to_peer.result c.send_to_peer.new.machines
+    c.send_to_peer.ensures in
+    let T : Joins → Type 0 =
+    λ j. IfOk c.send_to_peer.result (λ a. ObeyedBy (record { own = []; far = j.far }) c.args.machines.now c.send_to_peer.new.machines (Raw c.args.id.now c.args.frames.now) a) in
     subst T c.joins.view_is (subst (λ m. IfOk c.send_to_peer.result (λ a. ObeyedBy J m c.send_to_peer.new.machines (Raw c.args.id.now c.args.frames.now) a)) c.machines.view_is sent.0)
 
 pub returns-clause-cut : goal.returns-clause-cut
@@ -186,9 +203,15 @@ returns-clause-cut c =
     let found = looked_at c.select.new.field c.in-Place.place s.device s.stands c.devices.result.now c.index-devices-place.result c.devices.ensures c.index-devices-place.is in
     let may : MayRaw (state_at old) c.args.id.now c.args.frames.now = subst (λ (m : Machines). MayRaw (state_at m) c.args.id.now c.args.frames.now) (sym c.machines.view_is) c.requires.frames in
     let peer : is_tag s.device ≡ false = sym (ap is_tag found) ∙ sym c.is_tag.ensures ∙ c.if-is_tag.false in
-    let sent = peer_sent old settled unlinked c.args.id.now c.args.frames.now counts may c.select.new.field c.in-Place.place s peer (peer_served old settled unlinked c.args.id.now c.args.frames.now counts may c.select.new.field c.in-Place.place s peer) c.send_to_peer.result c.send_to_peer.new.machines c.send_to_peer.ensures in
-    let stops : Joins → Machines → Type 0 = λ j m. OnErr c.send_to_peer.result (RawStops (record { own = []; far = j.far }) (state_at m) (Raw c.args.id.now c.args.frames.now) c.send_to_peer.new.machines.air.trace (state_at c.send_to_peer.new.machines)) in
-    subst (λ j. stops j c.args.machines.now) c.joins.view_is (subst (λ m. OnErr c.send_to_peer.result (RawStops J (state_at m) (Raw c.args.id.now c.args.frames.now) c.send_to_peer.new.machines.air.trace (state_at c.send_to_peer.new.machines))) c.machines.view_is sent.1)
+    let sent = peer_sent old settled unlinked c.args.id.now c.args.frames.now counts may c.select.new.field c.in-Place.place s peer
+    (peer_served old settled unlinked c.args.id.now c.args.frames.now counts may c.select.new.field c.in-Place.place s peer) c.send_to_peer.result c.send_to_peer.new.machines
+    c.send_to_peer.ensures in
+    let stops : Joins → Machines → Type 0 =
+    λ j m. OnErr c.send_to_peer.result (RawStops (record { own = []; far = j.far }) (state_at m) (Raw c.args.id.now c.args.frames.now) c.send_to_peer.new.machines.air.trace
+    (state_at c.send_to_peer.new.machines)) in
+    subst (λ j. stops j c.args.machines.now) c.joins.view_is
+    (subst (λ m. OnErr c.send_to_peer.result (RawStops J (state_at m) (Raw c.args.id.now c.args.frames.now) c.send_to_peer.new.machines.air.trace (state_at c.send_to_peer.new.machines)))
+    c.machines.view_is sent.1)
 
 pub returns-clause-memory : goal.returns-clause-memory
 returns-clause-memory c =
@@ -202,5 +225,7 @@ returns-clause-memory c =
     let found = looked_at c.select.new.field c.in-Place.place s.device s.stands c.devices.result.now c.index-devices-place.result c.devices.ensures c.index-devices-place.is in
     let may : MayRaw (state_at old) c.args.id.now c.args.frames.now = subst (λ (m : Machines). MayRaw (state_at m) c.args.id.now c.args.frames.now) (sym c.machines.view_is) c.requires.frames in
     let peer : is_tag s.device ≡ false = sym (ap is_tag found) ∙ sym c.is_tag.ensures ∙ c.if-is_tag.false in
-    let sent = peer_sent old settled unlinked c.args.id.now c.args.frames.now counts may c.select.new.field c.in-Place.place s peer (peer_served old settled unlinked c.args.id.now c.args.frames.now counts may c.select.new.field c.in-Place.place s peer) c.send_to_peer.result c.send_to_peer.new.machines c.send_to_peer.ensures in
+    let sent = peer_sent old settled unlinked c.args.id.now c.args.frames.now counts may c.select.new.field c.in-Place.place s peer
+    (peer_served old settled unlinked c.args.id.now c.args.frames.now counts may c.select.new.field c.in-Place.place s peer) c.send_to_peer.result c.send_to_peer.new.machines
+    c.send_to_peer.ensures in
     sent.2

@@ -35,7 +35,8 @@ returns-in-Err-FieldLost g c =
     (left_so fs i f within c.frame-item.is) c.loop-frame.invariant in
     sending_lost g.A.Answerer.restarts g.A.Answerer.steps g.A.Answerer.stops g.A.Answerer.is_stuck c.args.field.now c.args.far.now fs c.requires f (drop (i + 1) fs)
     c.loop-frame.field c.transmit.new.self c.loop-frame.far c.transmit.new.far c.loop-frame.told.items on
-    (subst (λ x. Transmits devices g.A.Answerer.restarts g.A.Answerer.steps g.A.Answerer.stops g.A.Answerer.is_stuck c.loop-frame.field f c.loop-frame.far (Err x) c.transmit.new.self c.transmit.new.far)
+    (subst (λ x. Transmits devices g.A.Answerer.restarts g.A.Answerer.steps g.A.Answerer.stops g.A.Answerer.is_stuck c.loop-frame.field f c.loop-frame.far (Err x) c.transmit.new.self
+    c.transmit.new.far)
     c.in-Err-FieldLost.field-0-is c.in-Err-FieldLost.ensures.turn)
 
 pub returns-in-Err-Memory : goal.returns-in-Err-Memory
@@ -49,7 +50,8 @@ returns-in-Err-Memory g c =
     (left_so fs i f within c.frame-item.is) c.loop-frame.invariant in
     sending_wanting g.A.Answerer.restarts g.A.Answerer.steps g.A.Answerer.stops g.A.Answerer.is_stuck c.args.field.now c.args.far.now fs c.requires f (drop (i + 1) fs)
     c.loop-frame.field c.transmit.new.self c.loop-frame.far c.transmit.new.far c.loop-frame.told.items on
-    (subst (λ x. Transmits devices g.A.Answerer.restarts g.A.Answerer.steps g.A.Answerer.stops g.A.Answerer.is_stuck c.loop-frame.field f c.loop-frame.far (Err x) c.transmit.new.self c.transmit.new.far)
+    (subst (λ x. Transmits devices g.A.Answerer.restarts g.A.Answerer.steps g.A.Answerer.stops g.A.Answerer.is_stuck c.loop-frame.field f c.loop-frame.far (Err x) c.transmit.new.self
+    c.transmit.new.far)
     c.in-Err-Memory.field-0-is c.in-Err-Memory.ensures.turn)
 
 pub loop-frame-preserved : goal.loop-frame-preserved

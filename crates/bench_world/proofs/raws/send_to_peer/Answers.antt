@@ -23,7 +23,8 @@ returns c = λ peer far numbered there.
     let number_at : get_or m.peers.numbers place None ≡ Some peer = subst (λ (x : Machines). get_or x.peers.numbers place None ≡ Some peer) (sym is) numbered in
     let far_at : get_or m.ends place None ≡ Some far = subst (λ (x : Machines). get_or x.ends place None ≡ Some far) (sym is) there in
     let same_number : Some c.in-Some.peer ≡ Some peer = sym c.in-Some.is ∙ c.index.ensures ∙ any_other m.peers.numbers place c.index.result.now None of_numbers ∙ number_at in
-    let same_far : Some c.in-Some-take.end ≡ Some far = sym c.in-Some-take.is ∙ c.take.ensures.value ∙ c.index_mut.ensures.value ∙ any_other m.ends place c.index_mut.result.now None of_ends ∙ far_at in
+    let same_far : Some c.in-Some-take.end ≡ Some far = sym c.in-Some-take.is ∙ c.take.ensures.value ∙ c.index_mut.ensures.value ∙ any_other m.ends place c.index_mut.result.now None of_ends
+    ∙ far_at in
     let n : c.in-Some.peer ≡ peer = cc in
     let e : c.in-Some-take.end ≡ far = cc in
     let own : ℕ = c.in-Some.peer in
@@ -44,7 +45,8 @@ returns c = λ peer far numbered there.
       link = m.link;
     } in
     let left : now ≡ left_by c.send_linked-sent.result m c.send_linked-sent.new.field place c.send_linked-sent.new.far.end own (length begun.service.accepted) =
-    left_is m c.send_linked-sent.new.field place c.take.new.self over own (length c.accepted-start.result.now) (length c.accepted.result.now) c.add_opened.new.links.items behind c.send_linked-sent.result c.is_ok.result c.is_ok.ensures.value added
+    left_is m c.send_linked-sent.new.field place c.take.new.self over own (length c.accepted-start.result.now) (length c.accepted.result.now) c.add_opened.new.links.items behind
+    c.send_linked-sent.result c.is_ok.result c.is_ok.ensures.value added
     ∙ ap (λ x. left_by c.send_linked-sent.result m c.send_linked-sent.new.field place x own (length c.accepted-start.result.now)) c.into_end-end.ensures
     ∙ ap (left_by c.send_linked-sent.result m c.send_linked-sent.new.field place c.send_linked-sent.new.far.end own) start in
     let sends : RawSendsAll m.air (record { end = begun; numbers = c.args.counts }) c.args.frames.now c.send_linked-sent.new.field c.send_linked-sent.new.far c.send_linked-sent.result =

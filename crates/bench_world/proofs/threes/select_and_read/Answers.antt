@@ -32,7 +32,8 @@ returns-in-Place-clause-ok c =
     if_ok c.told_three.result (λ answer. told_three c.read_three.result ≡ Some answer)
     (λ answer. ObeyedUnlinked c.args.field.now c.read_three.new.field (Read3 c.args.id) answer)
     (λ answer told. read_obeyed_three c.args.field.now c.select_three.new.field c.args.id c.in-Place.place c.requires.idle c.requires.stored s c.read_three.new.field c.read_three.result answer told
-    (c.read_three.ensures.tells (read_fed c.read_three.result answer told) s.device (stands_three c.args.field.now c.select_three.new.field c.args.id c.in-Place.place c.requires.idle c.requires.stored s)))
+    (c.read_three.ensures.tells (read_fed c.read_three.result answer told) s.device (stands_three c.args.field.now c.select_three.new.field c.args.id c.in-Place.place c.requires.idle c.requires.stored
+    s)))
     c.told_three.ensures.ok
 
 pub returns-in-Place-clause-cut : goal.returns-in-Place-clause-cut

@@ -46,7 +46,8 @@ returns-in-Place-clause-cut c =
     let S : Selection → Type 0 = λ s. SeeksTo c.args.id s (moment c.args.field.now) (moment c.select_three.new.field) in
     let s : SeeksAt c.args.id c.in-Place.place (moment c.args.field.now) (moment c.select_three.new.field) = subst S c.in-Place.is c.in_ok-place.ensures.ok in
     let C : List ℕ → Type 0 = λ bytes. CutThreeWriteAt c.args.id (moment c.select_three.new.field) (moment c.write_three.new.field) c.in-Place.place bytes c.write_three.result in
-    on_err_by c.written_three.result (c.write_three.result ≡ Err fault.Memory) ((m : Msg) → message_of m ≡ c.args.bytes.now → CutOffUnlinked c.args.field.now c.write_three.new.field (Write3 c.args.id m))
+    on_err_by c.written_three.result (c.write_three.result ≡ Err fault.Memory) ((m : Msg) → message_of m ≡ c.args.bytes.now
+    → CutOffUnlinked c.args.field.now c.write_three.new.field (Write3 c.args.id m))
     (λ starved m is.
     let cut : C (message_of m) = subst C (sym is) c.write_three.ensures.cut in
     write_cut_three c.args.field.now c.select_three.new.field c.args.id c.in-Place.place c.requires.idle c.requires.stored s c.write_three.new.field m

@@ -13,15 +13,18 @@ returns-in-Whole c =
 
 pub loop-event-preserved : goal.loop-event-preserved
 loop-event-preserved c =
-    let here = left_here c.loop-event.next c.loop-event.event-index c.args.events.now c.event-item.result (brings_payload c.args.first (frames_of (arrived c.args.events.now))) c.loop-event-test.true c.event-item.is c.loop-event.invariant.left in
+    let here = left_here c.loop-event.next c.loop-event.event-index c.args.events.now c.event-item.result (brings_payload c.args.first (frames_of (arrived c.args.events.now))) c.loop-event-test.true
+    c.event-item.is c.loop-event.invariant.left in
     let rest : List _ = drop (c.loop-event.event-index + 1) c.args.events.now in
     elim c.match-taken_in.branch [
       | in-Passed w ↦ record {
         number = subst (λ (n : ℕ). n < 4) (sym w.next-is) c.loop-event.invariant.number;
-        left = subst (λ (n : ℕ). Left n (frames_of (arrived rest)) (brings_payload c.args.first (frames_of (arrived c.args.events.now)))) (sym w.next-is) (passed_on c.loop-event.next c.event-item.result rest _ w.in-Passed.ensures here);
+        left = subst (λ (n : ℕ). Left n (frames_of (arrived rest)) (brings_payload c.args.first (frames_of (arrived c.args.events.now)))) (sym w.next-is)
+            (passed_on c.loop-event.next c.event-item.result rest _ w.in-Passed.ensures here);
       }
       | in-Taken w ↦ record {
         number = subst (λ (n : ℕ). n < 4) (sym w.next-is) w.after-next.ensures.bound;
-        left = subst (λ (n : ℕ). Left n (frames_of (arrived rest)) (brings_payload c.args.first (frames_of (arrived c.args.events.now)))) (sym (w.next-is ∙ w.after-next.ensures.next)) (taken_on c.loop-event.next c.event-item.result rest _ w.in-Taken.ensures here);
+        left = subst (λ (n : ℕ). Left n (frames_of (arrived rest)) (brings_payload c.args.first (frames_of (arrived c.args.events.now)))) (sym (w.next-is ∙ w.after-next.ensures.next))
+            (taken_on c.loop-event.next c.event-item.result rest _ w.in-Taken.ensures here);
       }
     ]

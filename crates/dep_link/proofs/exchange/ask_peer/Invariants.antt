@@ -18,7 +18,8 @@ invariant-loop-heard g l = record {
       → StandsSo g.L.Listener.machine g.A.Answerer.restarts g.A.Answerer.steps g.A.Answerer.stops g.A.Answerer.is_stuck l.fn.field l.fn.far i out l.field l.far (Waits l.initiator l.frame);
   goes : (i : InitState) (out : List ℕ) → l.fn.initiator ≡ begun i out → l.fn.request ≡ air_frame (request (begun i out).core) → length out ≤ 2178 → l.fn.field.lit ≡ true
       → (first : ℕ) (handed : List (List ℕ)) (arrived : List Signal) (t : HasPeer g.L.Listener g.L.PeerListener.target l.fn.field i first handed arrived)
-      → OnPeer g.L.Listener g.L.PeerListener.target g.A.Answerer.steps t.listener i first handed arrived out l.fn.far l.fn.field l.field t.place l.far l.initiator (Requests l.frame) (Waits l.initiator l.frame);
+      → OnPeer g.L.Listener g.L.PeerListener.target g.A.Answerer.steps t.listener i first handed arrived out l.fn.far l.fn.field l.field t.place l.far l.initiator (Requests l.frame)
+      (Waits l.initiator l.frame);
 }
 
 abbrev pub decreases-loop-heard : goal.decreases-loop-heard

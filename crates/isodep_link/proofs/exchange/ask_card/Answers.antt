@@ -60,44 +60,54 @@ loop-heard-init g c = record {
 pub loop-heard-preserved : goal.loop-heard-preserved
 loop-heard-preserved g c = record {
   bytes = search rules;
-  said = command_sends g.L.Listener.machine c.args.field.now c.args.reader.now c.args.command.now.bytes c.loop-heard.far c.transmit.new.far c.loop-heard.field c.transmit.new.self c.loop-heard.reader c.loop-heard.frame c.loop-heard.invariant.said c.in-Ok.heard c.in-Ok.ensures.turn c.next_into.new.self _ c.in-Send.ensures.step;
+  said = command_sends g.L.Listener.machine c.args.field.now c.args.reader.now c.args.command.now.bytes c.loop-heard.far c.transmit.new.far c.loop-heard.field c.transmit.new.self c.loop-heard.reader
+      c.loop-heard.frame c.loop-heard.invariant.said c.in-Ok.heard c.in-Ok.ensures.turn c.next_into.new.self _ c.in-Send.ensures.step;
   goes = λ commands arrived t.
       next_here g.L.Listener (laws g) g.L.CardListener.card g.L.CardListener.tag g.met.L.CardListener.holds c.args.field.now c.args.place c.args.reader.now c.args.command.now.bytes commands arrived t
-      c.loop-heard.field c.loop-heard.reader c.loop-heard.frame c.loop-heard.invariant.bytes (c.loop-heard.invariant.goes commands arrived t) {F = Mute} restarts steps c.loop-heard.far c.transmit.new.far c.transmit.new.self
+      c.loop-heard.field c.loop-heard.reader c.loop-heard.frame c.loop-heard.invariant.bytes (c.loop-heard.invariant.goes commands arrived t) {F = Mute} restarts steps c.loop-heard.far
+      c.transmit.new.far c.transmit.new.self
       c.in-Ok.heard c.in-Ok.ensures.turn c.next_into.new.self _ c.in-Send.ensures.step;
 }
 
 pub returns-in-Finished-clause-ends : goal.returns-in-Finished-clause-ends
 returns-in-Finished-clause-ends g c = λ commands arrived t.
-    ends_answered g.L.Listener (laws g) g.L.CardListener.card g.L.CardListener.tag g.met.L.CardListener.holds c.args.field.now c.args.place c.args.reader.now c.args.command.now.bytes commands arrived t
-    c.loop-heard.field c.loop-heard.reader c.loop-heard.frame c.loop-heard.invariant.bytes (c.loop-heard.invariant.goes commands arrived t) {F = Mute} restarts steps c.loop-heard.far c.transmit.new.far c.transmit.new.self
+    ends_answered g.L.Listener (laws g) g.L.CardListener.card g.L.CardListener.tag g.met.L.CardListener.holds c.args.field.now c.args.place c.args.reader.now c.args.command.now.bytes commands arrived
+    t
+    c.loop-heard.field c.loop-heard.reader c.loop-heard.frame c.loop-heard.invariant.bytes (c.loop-heard.invariant.goes commands arrived t) {F = Mute} restarts steps c.loop-heard.far
+    c.transmit.new.far c.transmit.new.self
     c.in-Ok.heard c.in-Ok.ensures.turn c.next_into.new.self c.in-Finished.answer.items c.in-Finished.ensures.step c.unwrap.result
     (ok_value c.whole.result c.unwrap.result (whole_a c.deref.result.now) c.unwrap.ensures c.whole.ensures.ok ∙ ap whole_a c.deref.ensures.0)
 
 pub returns-in-SixBad-clause-ends : goal.returns-in-SixBad-clause-ends
 returns-in-SixBad-clause-ends g c = λ commands arrived t.
     ends_six g.L.Listener (laws g) g.L.CardListener.card g.L.CardListener.tag g.met.L.CardListener.holds c.args.field.now c.args.place c.args.reader.now c.args.command.now.bytes commands arrived t
-    c.loop-heard.field c.loop-heard.reader c.loop-heard.frame c.loop-heard.invariant.bytes (c.loop-heard.invariant.goes commands arrived t) {F = Mute} restarts steps c.loop-heard.far c.transmit.new.far c.transmit.new.self
+    c.loop-heard.field c.loop-heard.reader c.loop-heard.frame c.loop-heard.invariant.bytes (c.loop-heard.invariant.goes commands arrived t) {F = Mute} restarts steps c.loop-heard.far
+    c.transmit.new.far c.transmit.new.self
     c.in-Ok.heard c.in-Ok.ensures.turn c.next_into.new.self c.in-SixBad.ensures.step
 
 pub returns-in-Protocol-clause-ends : goal.returns-in-Protocol-clause-ends
 returns-in-Protocol-clause-ends g c = λ commands arrived t.
     ends_never g.L.Listener (laws g) g.L.CardListener.card g.L.CardListener.tag g.met.L.CardListener.holds c.args.field.now c.args.place c.args.reader.now c.args.command.now.bytes commands arrived t
-    c.loop-heard.field c.loop-heard.reader c.loop-heard.frame c.loop-heard.invariant.bytes (c.loop-heard.invariant.goes commands arrived t) {F = Mute} restarts steps c.loop-heard.far c.transmit.new.far c.transmit.new.self
+    c.loop-heard.field c.loop-heard.reader c.loop-heard.frame c.loop-heard.invariant.bytes (c.loop-heard.invariant.goes commands arrived t) {F = Mute} restarts steps c.loop-heard.far
+    c.transmit.new.far c.transmit.new.self
     c.in-Ok.heard c.in-Ok.ensures.turn c.next_into.new.self c.in-Protocol.ensures.step
 
 pub returns-in-Err-FieldLost-clause-ends : goal.returns-in-Err-FieldLost-clause-ends
 returns-in-Err-FieldLost-clause-ends g c = λ commands arrived t.
-    let P : AirFault → Type 0 = λ e. Transmits g.L.Listener.machine restarts steps stops is_stuck c.loop-heard.field c.loop-heard.frame c.loop-heard.far (Err e) c.transmit.new.self c.transmit.new.far in
+    let P : AirFault → Type 0 = λ e. Transmits g.L.Listener.machine restarts steps stops is_stuck c.loop-heard.field c.loop-heard.frame c.loop-heard.far (Err e) c.transmit.new.self
+    c.transmit.new.far in
     ends_lost g.L.Listener (laws g) g.L.CardListener.card g.L.CardListener.tag g.met.L.CardListener.holds c.args.field.now c.args.place c.args.reader.now c.args.command.now.bytes commands arrived t
-    c.loop-heard.field c.loop-heard.reader c.loop-heard.frame c.loop-heard.invariant.bytes (c.loop-heard.invariant.goes commands arrived t) {F = Mute} restarts steps c.loop-heard.far c.transmit.new.far c.transmit.new.self
+    c.loop-heard.field c.loop-heard.reader c.loop-heard.frame c.loop-heard.invariant.bytes (c.loop-heard.invariant.goes commands arrived t) {F = Mute} restarts steps c.loop-heard.far
+    c.transmit.new.far c.transmit.new.self
     stops is_stuck c.loop-heard.reader (subst P c.in-Err-FieldLost.field-0-is c.in-Err-FieldLost.ensures.turn)
 
 pub returns-in-Err-Memory-clause-ends : goal.returns-in-Err-Memory-clause-ends
 returns-in-Err-Memory-clause-ends g c = λ commands arrived t.
-    let P : AirFault → Type 0 = λ e. Transmits g.L.Listener.machine restarts steps stops is_stuck c.loop-heard.field c.loop-heard.frame c.loop-heard.far (Err e) c.transmit.new.self c.transmit.new.far in
+    let P : AirFault → Type 0 = λ e. Transmits g.L.Listener.machine restarts steps stops is_stuck c.loop-heard.field c.loop-heard.frame c.loop-heard.far (Err e) c.transmit.new.self
+    c.transmit.new.far in
     ends_stopped g.L.Listener (laws g) g.L.CardListener.card g.L.CardListener.tag g.met.L.CardListener.holds c.args.field.now c.args.place c.args.reader.now c.args.command.now.bytes commands arrived t
-    c.loop-heard.field c.loop-heard.reader c.loop-heard.frame c.loop-heard.invariant.bytes (c.loop-heard.invariant.goes commands arrived t) {F = Mute} restarts steps c.loop-heard.far c.transmit.new.far c.transmit.new.self
+    c.loop-heard.field c.loop-heard.reader c.loop-heard.frame c.loop-heard.invariant.bytes (c.loop-heard.invariant.goes commands arrived t) {F = Mute} restarts steps c.loop-heard.far
+    c.transmit.new.far c.transmit.new.self
     stops is_stuck (subst P c.in-Err-Memory.field-0-is c.in-Err-Memory.ensures.turn)
 
 pub loop-heard-smaller : goal.loop-heard-smaller
@@ -105,28 +115,35 @@ loop-heard-smaller g c = falls_by c.loop-heard.reader c.next_into.new.self c.in-
 
 pub returns-in-Finished-clause-turns : goal.returns-in-Finished-clause-turns
 returns-in-Finished-clause-turns g c =
-    command_answered g.L.Listener.machine c.args.field.now c.args.reader.now c.args.command.now.bytes c.loop-heard.far c.transmit.new.far c.loop-heard.field c.transmit.new.self c.loop-heard.reader c.loop-heard.frame c.loop-heard.invariant.said
+    command_answered g.L.Listener.machine c.args.field.now c.args.reader.now c.args.command.now.bytes c.loop-heard.far c.transmit.new.far c.loop-heard.field c.transmit.new.self c.loop-heard.reader
+    c.loop-heard.frame c.loop-heard.invariant.said
     c.in-Ok.heard c.in-Ok.ensures.turn c.next_into.new.self c.in-Finished.answer.items c.in-Finished.ensures.step c.unwrap.result
     (ok_value c.whole.result c.unwrap.result (whole_a c.deref.result.now) c.unwrap.ensures c.whole.ensures.ok ∙ ap whole_a c.deref.ensures.0)
 
 pub returns-in-SixBad-clause-turns : goal.returns-in-SixBad-clause-turns
 returns-in-SixBad-clause-turns g c =
-    command_six g.L.Listener.machine c.args.field.now c.args.reader.now c.args.command.now.bytes c.loop-heard.far c.transmit.new.far c.loop-heard.field c.transmit.new.self c.loop-heard.reader c.loop-heard.frame c.loop-heard.invariant.said
+    command_six g.L.Listener.machine c.args.field.now c.args.reader.now c.args.command.now.bytes c.loop-heard.far c.transmit.new.far c.loop-heard.field c.transmit.new.self c.loop-heard.reader
+    c.loop-heard.frame c.loop-heard.invariant.said
     c.in-Ok.heard c.in-Ok.ensures.turn c.next_into.new.self c.in-SixBad.ensures.step
 
 pub returns-in-Protocol-clause-turns : goal.returns-in-Protocol-clause-turns
 returns-in-Protocol-clause-turns g c =
-    command_refused g.L.Listener.machine c.args.field.now c.args.reader.now c.args.command.now.bytes c.loop-heard.far c.transmit.new.far c.loop-heard.field c.transmit.new.self c.loop-heard.reader c.loop-heard.frame c.loop-heard.invariant.said
+    command_refused g.L.Listener.machine c.args.field.now c.args.reader.now c.args.command.now.bytes c.loop-heard.far c.transmit.new.far c.loop-heard.field c.transmit.new.self c.loop-heard.reader
+    c.loop-heard.frame c.loop-heard.invariant.said
     c.in-Ok.heard c.in-Ok.ensures.turn c.next_into.new.self c.in-Protocol.ensures.step
 
 pub returns-in-Err-FieldLost-clause-turns : goal.returns-in-Err-FieldLost-clause-turns
 returns-in-Err-FieldLost-clause-turns g c =
-    let P : AirFault → Type 0 = λ e. Transmits g.L.Listener.machine restarts steps stops is_stuck c.loop-heard.field c.loop-heard.frame c.loop-heard.far (Err e) c.transmit.new.self c.transmit.new.far in
-    command_lost g.L.Listener.machine c.args.field.now c.args.reader.now c.args.command.now.bytes c.loop-heard.far c.transmit.new.far c.loop-heard.field c.transmit.new.self c.loop-heard.reader c.loop-heard.frame c.loop-heard.invariant.said
+    let P : AirFault → Type 0 = λ e. Transmits g.L.Listener.machine restarts steps stops is_stuck c.loop-heard.field c.loop-heard.frame c.loop-heard.far (Err e) c.transmit.new.self
+    c.transmit.new.far in
+    command_lost g.L.Listener.machine c.args.field.now c.args.reader.now c.args.command.now.bytes c.loop-heard.far c.transmit.new.far c.loop-heard.field c.transmit.new.self c.loop-heard.reader
+    c.loop-heard.frame c.loop-heard.invariant.said
     stops is_stuck (subst P c.in-Err-FieldLost.field-0-is c.in-Err-FieldLost.ensures.turn)
 
 pub returns-in-Err-Memory-clause-turns : goal.returns-in-Err-Memory-clause-turns
 returns-in-Err-Memory-clause-turns g c =
-    let P : AirFault → Type 0 = λ e. Transmits g.L.Listener.machine restarts steps stops is_stuck c.loop-heard.field c.loop-heard.frame c.loop-heard.far (Err e) c.transmit.new.self c.transmit.new.far in
-    command_stopped g.L.Listener.machine c.args.field.now c.args.reader.now c.args.command.now.bytes c.loop-heard.far c.transmit.new.far c.loop-heard.field c.transmit.new.self c.loop-heard.reader c.loop-heard.frame c.loop-heard.invariant.said
+    let P : AirFault → Type 0 = λ e. Transmits g.L.Listener.machine restarts steps stops is_stuck c.loop-heard.field c.loop-heard.frame c.loop-heard.far (Err e) c.transmit.new.self
+    c.transmit.new.far in
+    command_stopped g.L.Listener.machine c.args.field.now c.args.reader.now c.args.command.now.bytes c.loop-heard.far c.transmit.new.far c.loop-heard.field c.transmit.new.self c.loop-heard.reader
+    c.loop-heard.frame c.loop-heard.invariant.said
     stops is_stuck never_stops (subst P c.in-Err-Memory.field-0-is c.in-Err-Memory.ensures.turn)

@@ -12,7 +12,8 @@ invariant-loop-heard g l = record {
   bytes : HasBytes l.frame;
   said : CommandSaid g.L.Listener.machine l.fn.field l.field l.fn.reader l.command.bytes l.far l.reader l.frame;
   goes : (commands : List (List ℕ)) (arrived : List Signal) (t : HasCardTag g.L.Listener g.L.CardListener.card g.L.CardListener.tag l.fn.field l.place l.fn.reader commands arrived)
-      → OnTag g.L.Listener g.L.CardListener.card g.L.CardListener.tag t.listener l.fn.reader commands arrived l.command.bytes l.fn.field l.field l.place l.reader (Requests l.frame) (Waits l.reader l.frame []);
+      → OnTag g.L.Listener g.L.CardListener.card g.L.CardListener.tag t.listener l.fn.reader commands arrived l.command.bytes l.fn.field l.field l.place l.reader (Requests l.frame)
+      (Waits l.reader l.frame []);
 }
 
 abbrev pub decreases-loop-heard : goal.decreases-loop-heard

@@ -26,10 +26,12 @@ laws g = record {
 -- while messages were staged nothing was sent
 pub returns-in-Err-clause-err : goal.returns-in-Err-clause-err
 returns-in-Err-clause-err g c =
-    subst (λ e. AllFailed g.L.Listener g.L.PeerListener.target c.args.counts c.args.messages.now c.args.client.now.llc (record { air = c.args.field.now; initiator = c.args.initiator.now; far = c.args.far.now }) e
+    subst (λ e. AllFailed g.L.Listener g.L.PeerListener.target c.args.counts c.args.messages.now c.args.client.now.llc
+    (record { air = c.args.field.now; initiator = c.args.initiator.now; far = c.args.far.now }) e
     c.stage_all.new.client.llc (record { air = c.args.field.now; initiator = c.args.initiator.now; far = c.args.far.now })) (sym c.in-Err.ensures.err)
     (record {
-      goes = inr (nothing_done g.L.Listener g.L.PeerListener.target c.args.counts (begins_all c.args.client.now.llc (puts_at_once c.args.messages.now)) c.args.field.now c.args.initiator.now c.args.far.now);
+      goes = inr (nothing_done g.L.Listener g.L.PeerListener.target c.args.counts (begins_all c.args.client.now.llc (puts_at_once c.args.messages.now)) c.args.field.now c.args.initiator.now
+          c.args.far.now);
       serves = λ accords. none_sent c.args.messages.now c.args.far.now.end c.stage_all.new.client.llc;
     })
 
@@ -40,7 +42,8 @@ returns-clause-ok g c =
     let slots : List Slot = c.args.client.now.slots in
     let llc : c.stage_all.new.client.llc ≡ client = search rules in
     let staged : c.stage_all.new.client.slots ≡ all_staged ms slots = search rules in
-    given_back (λ a i. OnOk c.run.result (AllCalled g.L.Listener g.L.PeerListener.target c.args.counts ms client slots (record { air = c.args.field.now; initiator = c.args.initiator.now; far = c.args.far.now })
+    given_back (λ a i. OnOk c.run.result (AllCalled g.L.Listener g.L.PeerListener.target c.args.counts ms client slots
+    (record { air = c.args.field.now; initiator = c.args.initiator.now; far = c.args.far.now })
     c.run.new.self.llc c.run.new.self.slots (record { air = a; initiator = i; far = c.run.new.far })))
     c.run.new.carrier.field.now _ c.run.new.carrier.initiator.now _ (search rules) (search rules)
     (both_ok (Accords c.stage_all.new.client.llc c.args.far.now.end) _ (IsRun c.stage_all.new.client.slots c.run.new.self.slots c.args.far.now.end c.run.new.self.llc c.run.new.far.end) _
@@ -57,11 +60,13 @@ returns-clause-err g c =
     let llc : c.stage_all.new.client.llc ≡ client = search rules in
     let staged : c.stage_all.new.client.slots ≡ all_staged ms slots = search rules in
     let going : c.stage_all.new.client.spent ≡ false = search rules in
-    given_back (λ a i. IfErr c.run.result (λ e. AllFailed g.L.Listener g.L.PeerListener.target c.args.counts ms client (record { air = c.args.field.now; initiator = c.args.initiator.now; far = c.args.far.now }) e
+    given_back (λ a i. IfErr c.run.result (λ e. AllFailed g.L.Listener g.L.PeerListener.target c.args.counts ms client
+    (record { air = c.args.field.now; initiator = c.args.initiator.now; far = c.args.far.now }) e
     c.run.new.self.llc (record { air = a; initiator = i; far = c.run.new.far })))
     c.run.new.carrier.field.now _ c.run.new.carrier.initiator.now _ (search rules) (search rules)
     (both_err (Accords c.stage_all.new.client.llc c.args.far.now.end) _ (λ e. RunFails c.stage_all.new.client.slots c.run.new.self.slots c.args.far.now.end e c.run.new.far.end) _
     c.run.result (c.run.ensures.err going) (λ accords. c.run.ensures.fails (λ p. p.end) counted_is_peer accords)
-    (λ e r served. ran_failed g.L.Listener g.L.PeerListener.target (seen_pair {L = g.row.L.Denot}) (laws g) c.on-pair.result c.run.new.carrier c.args.far.now c.run.new.far c.args.field.now c.args.initiator.now
+    (λ e r served. ran_failed g.L.Listener g.L.PeerListener.target (seen_pair {L = g.row.L.Denot}) (laws g) c.on-pair.result c.run.new.carrier c.args.far.now c.run.new.far c.args.field.now
+    c.args.initiator.now
     c.on-pair.ensures.fresh c.requires.open_ c.run.ensures.ready c.args.counts client c.run.new.self.llc ms slots c.run.new.self.slots c.requires.rest c.requires.apart
     c.stage_all.new.client.llc c.stage_all.new.client.slots llc staged e r served))

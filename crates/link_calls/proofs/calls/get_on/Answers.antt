@@ -23,17 +23,22 @@ laws g = record {
 pub returns-clause-ok : goal.returns-clause-ok
 returns-clause-ok g c =
     let from = begins_from c.args.client.now.llc (sap_of_slot c.args.slot) (Gets c.args.acceptable c.args.key.now) in
-    given_back (λ a i. IfOk c.get_on.result (λ v. IsMade g.L.Listener g.L.PeerListener.target c.args.counts from c.args.field.now c.args.initiator.now c.args.far.now a i c.get_on.new.far (Ends (one_on (sap_of_slot c.args.slot) (Over (Value v.items))) c.get_on.new.self.llc)))
+    given_back (λ a i. IfOk c.get_on.result (λ v. IsMade g.L.Listener g.L.PeerListener.target c.args.counts from c.args.field.now c.args.initiator.now c.args.far.now a i c.get_on.new.far
+    (Ends (one_on (sap_of_slot c.args.slot) (Over (Value v.items))) c.get_on.new.self.llc)))
     c.get_on.new.carrier.field.now _ c.get_on.new.carrier.initiator.now _ (search rules) (search rules)
-    (IfOk-weaker c.get_on.result _ _ (λ v t. made g.L.Listener g.L.PeerListener.target (seen_pair {L = g.row.L.Denot}) (laws g) c.on-pair.result c.get_on.new.carrier c.args.far.now c.get_on.new.far c.args.field.now c.args.initiator.now
-    c.on-pair.ensures.fresh c.requires.open_ c.get_on.ensures.ready c.args.counts from (Ends (one_on (sap_of_slot c.args.slot) (Over (Value v.items))) c.get_on.new.self.llc) t (λ left. refl)) c.get_on.ensures.ok)
+    (IfOk-weaker c.get_on.result _ _ (λ v t. made g.L.Listener g.L.PeerListener.target (seen_pair {L = g.row.L.Denot}) (laws g) c.on-pair.result c.get_on.new.carrier c.args.far.now c.get_on.new.far
+    c.args.field.now c.args.initiator.now
+    c.on-pair.ensures.fresh c.requires.open_ c.get_on.ensures.ready c.args.counts from (Ends (one_on (sap_of_slot c.args.slot) (Over (Value v.items))) c.get_on.new.self.llc) t (λ left. refl))
+    c.get_on.ensures.ok)
 
 pub returns-clause-err : goal.returns-clause-err
 returns-clause-err g c =
     let from = begins_from c.args.client.now.llc (sap_of_slot c.args.slot) (Gets c.args.acceptable c.args.key.now) in
-    given_back (λ a i. IfErr c.get_on.result (λ e. RequestFails g.L.Listener g.L.PeerListener.target c.args.counts from c.args.field.now c.args.initiator.now c.args.far.now a i c.get_on.new.far (sap_of_slot c.args.slot) c.get_on.new.self.llc e))
+    given_back (λ a i. IfErr c.get_on.result (λ e. RequestFails g.L.Listener g.L.PeerListener.target c.args.counts from c.args.field.now c.args.initiator.now c.args.far.now a i c.get_on.new.far
+    (sap_of_slot c.args.slot) c.get_on.new.self.llc e))
     c.get_on.new.carrier.field.now _ c.get_on.new.carrier.initiator.now _ (search rules) (search rules)
-    (IfErr-weaker c.get_on.result _ _ (λ e t. request_failed g.L.Listener g.L.PeerListener.target (seen_pair {L = g.row.L.Denot}) (laws g) c.on-pair.result c.get_on.new.carrier c.args.far.now c.get_on.new.far c.args.field.now c.args.initiator.now
+    (IfErr-weaker c.get_on.result _ _ (λ e t. request_failed g.L.Listener g.L.PeerListener.target (seen_pair {L = g.row.L.Denot}) (laws g) c.on-pair.result c.get_on.new.carrier c.args.far.now
+    c.get_on.new.far c.args.field.now c.args.initiator.now
     c.on-pair.ensures.fresh c.requires.open_ c.get_on.ensures.ready (sap_of_slot c.args.slot) c.args.counts from e c.get_on.new.self.llc t) (c.get_on.ensures.err c.requires.going))
 
 pub returns-clause-value : goal.returns-clause-value

@@ -23,17 +23,21 @@ laws g = record {
 pub returns-clause-ok : goal.returns-clause-ok
 returns-clause-ok g c =
     let from = begins c.args.client.now.llc (Puts c.args.message.now) in
-    given_back (λ a i. OnOk c.put.result (IsMade g.L.Listener g.L.PeerListener.target c.args.counts from c.args.field.now c.args.initiator.now c.args.far.now a i c.put.new.far (Ends (alone (Over Done)) c.put.new.self.llc)))
+    given_back (λ a i. OnOk c.put.result (IsMade g.L.Listener g.L.PeerListener.target c.args.counts from c.args.field.now c.args.initiator.now c.args.far.now a i c.put.new.far
+    (Ends (alone (Over Done)) c.put.new.self.llc)))
     c.put.new.carrier.field.now _ c.put.new.carrier.initiator.now _ (search rules) (search rules)
-    (on_ok_weaker c.put.result (λ t. made g.L.Listener g.L.PeerListener.target (seen_pair {L = g.row.L.Denot}) (laws g) c.on-pair.result c.put.new.carrier c.args.far.now c.put.new.far c.args.field.now c.args.initiator.now
+    (on_ok_weaker c.put.result (λ t. made g.L.Listener g.L.PeerListener.target (seen_pair {L = g.row.L.Denot}) (laws g) c.on-pair.result c.put.new.carrier c.args.far.now c.put.new.far c.args.field.now
+    c.args.initiator.now
     c.on-pair.ensures.fresh c.requires.open_ c.put.ensures.ready c.args.counts from (Ends (alone (Over Done)) c.put.new.self.llc) t (λ left. refl)) c.put.ensures.ok)
 
 pub returns-clause-err : goal.returns-clause-err
 returns-clause-err g c =
     let from = begins c.args.client.now.llc (Puts c.args.message.now) in
-    given_back (λ a i. IfErr c.put.result (λ e. RequestFails g.L.Listener g.L.PeerListener.target c.args.counts from c.args.field.now c.args.initiator.now c.args.far.now a i c.put.new.far client_sap c.put.new.self.llc e))
+    given_back (λ a i. IfErr c.put.result (λ e. RequestFails g.L.Listener g.L.PeerListener.target c.args.counts from c.args.field.now c.args.initiator.now c.args.far.now a i c.put.new.far client_sap
+    c.put.new.self.llc e))
     c.put.new.carrier.field.now _ c.put.new.carrier.initiator.now _ (search rules) (search rules)
-    (IfErr-weaker c.put.result _ _ (λ e t. request_failed g.L.Listener g.L.PeerListener.target (seen_pair {L = g.row.L.Denot}) (laws g) c.on-pair.result c.put.new.carrier c.args.far.now c.put.new.far c.args.field.now c.args.initiator.now
+    (IfErr-weaker c.put.result _ _ (λ e t. request_failed g.L.Listener g.L.PeerListener.target (seen_pair {L = g.row.L.Denot}) (laws g) c.on-pair.result c.put.new.carrier c.args.far.now c.put.new.far
+    c.args.field.now c.args.initiator.now
     c.on-pair.ensures.fresh c.requires.open_ c.put.ensures.ready client_sap c.args.counts from e c.put.new.self.llc t) (c.put.ensures.err c.requires.going c.requires.free))
 
 pub returns-clause-taken : goal.returns-clause-taken

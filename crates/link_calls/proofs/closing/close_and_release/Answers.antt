@@ -24,9 +24,11 @@ laws g = record {
 pub returns-in-Err-clause-err : goal.returns-in-Err-clause-err
 returns-in-Err-clause-err g c =
     let from = closes c.args.client.now.llc in
-    given_back (λ a i. ClosingFails g.L.Listener g.L.PeerListener.target c.args.counts from c.args.field.now c.args.initiator.now c.args.far.now a c.close.new.far c.close.new.self.llc i c.in-Err.fault)
+    given_back (λ a i. ClosingFails g.L.Listener g.L.PeerListener.target c.args.counts from c.args.field.now c.args.initiator.now c.args.far.now a c.close.new.far c.close.new.self.llc i
+    c.in-Err.fault)
     c.close.new.carrier.field.now _ c.close.new.carrier.initiator.now _ (search rules) (search rules)
-    (closing_failed g.L.Listener g.L.PeerListener.target (seen_pair {L = g.row.L.Denot}) (laws g) c.on-pair.result c.close.new.carrier c.args.far.now c.close.new.far c.args.field.now c.args.initiator.now
+    (closing_failed g.L.Listener g.L.PeerListener.target (seen_pair {L = g.row.L.Denot}) (laws g) c.on-pair.result c.close.new.carrier c.args.far.now c.close.new.far c.args.field.now
+    c.args.initiator.now
     c.on-pair.ensures.fresh c.requires.open_ c.close.ensures.ready c.args.counts from c.close.new.self.llc c.in-Err.fault (c.in-Err.ensures.err c.requires.going))
 
 pub returns-in-Err-clause-fails : goal.returns-in-Err-clause-fails
@@ -35,11 +37,14 @@ returns-in-Err-clause-fails g c = λ accords quiet. c.in-Err.ensures.fails (λ p
 pub returns-in-Err-release-clause-err : goal.returns-in-Err-release-clause-err
 returns-in-Err-release-clause-err g c =
     let from = closes c.args.client.now.llc in
-    given_back (λ a i. ClosingFails g.L.Listener g.L.PeerListener.target c.args.counts from c.args.field.now c.args.initiator.now c.args.far.now a c.release.new.far c.close.new.self.llc i c.fault_at.result)
+    given_back (λ a i. ClosingFails g.L.Listener g.L.PeerListener.target c.args.counts from c.args.field.now c.args.initiator.now c.args.far.now a c.release.new.far c.close.new.self.llc i
+    c.fault_at.result)
     c.release.new.pair.0 _ c.close.new.carrier.initiator.now _ (search rules) (search rules)
-    (subst (ClosingFails g.L.Listener g.L.PeerListener.target c.args.counts from c.args.field.now c.args.initiator.now c.args.far.now c.release.new.pair.0 c.release.new.far c.close.new.self.llc c.close.new.carrier.initiator.now)
+    (subst (ClosingFails g.L.Listener g.L.PeerListener.target c.args.counts from c.args.field.now c.args.initiator.now c.args.far.now c.release.new.pair.0 c.release.new.far c.close.new.self.llc
+    c.close.new.carrier.initiator.now)
     (sym c.fault_at.ensures)
-    (release_failed g.L.Listener g.L.PeerListener.target (seen_pair {L = g.row.L.Denot}) (laws g) c.on-pair.result c.close.new.carrier c.args.far.now c.close.new.far c.args.field.now c.args.initiator.now
+    (release_failed g.L.Listener g.L.PeerListener.target (seen_pair {L = g.row.L.Denot}) (laws g) c.on-pair.result c.close.new.carrier c.args.far.now c.close.new.far c.args.field.now
+    c.args.initiator.now
     c.on-pair.ensures.fresh c.requires.open_ c.close.ensures.ready c.args.counts from all_closed c.close.new.self.llc c.in-Ok.ensures.ok (λ p. p.end.stuck) c.release.new.pair.0 c.release.new.far
     (λ quiet. c.in-Err-release.ensures.stays (takes_rls g.L.Listener g.L.PeerListener.target c.close.new.carrier.field.now c.close.new.carrier.initiator.now
     (made g.L.Listener g.L.PeerListener.target (seen_pair {L = g.row.L.Denot}) (laws g) c.on-pair.result c.close.new.carrier c.args.far.now c.close.new.far c.args.field.now c.args.initiator.now
@@ -49,7 +54,8 @@ returns-in-Err-release-clause-err g c =
 pub returns-in-Ok-release-clause-ok : goal.returns-in-Ok-release-clause-ok
 returns-in-Ok-release-clause-ok g c =
     let from = closes c.args.client.now.llc in
-    given_back (λ a i. IsReleased g.L.Listener g.L.PeerListener.target c.args.counts from c.args.field.now c.args.initiator.now c.args.far.now a c.release.new.far (Ends all_closed c.close.new.self.llc))
+    given_back (λ a i. IsReleased g.L.Listener g.L.PeerListener.target c.args.counts from c.args.field.now c.args.initiator.now c.args.far.now a c.release.new.far
+    (Ends all_closed c.close.new.self.llc))
     c.release.new.pair.0 _ c.close.new.carrier.initiator.now c.close.new.carrier.initiator.now (search rules) refl
     (released g.L.Listener g.L.PeerListener.target (seen_pair {L = g.row.L.Denot}) (laws g) c.on-pair.result c.close.new.carrier c.args.far.now c.close.new.far c.args.field.now c.args.initiator.now
     c.on-pair.ensures.fresh c.requires.open_ c.close.ensures.ready c.args.counts from all_closed c.close.new.self.llc c.in-Ok.ensures.ok (λ p. p.end.stuck) c.release.new.pair.0 c.release.new.far
@@ -60,7 +66,8 @@ returns-in-Ok-release-clause-ok g c =
 
 pub returns-in-Ok-release-clause-closed : goal.returns-in-Ok-release-clause-closed
 returns-in-Ok-release-clause-closed g c = λ accords quiet.
-    let open_ = (made g.L.Listener g.L.PeerListener.target (seen_pair {L = g.row.L.Denot}) (laws g) c.on-pair.result c.close.new.carrier c.args.far.now c.close.new.far c.args.field.now c.args.initiator.now
+    let open_ = (made g.L.Listener g.L.PeerListener.target (seen_pair {L = g.row.L.Denot}) (laws g) c.on-pair.result c.close.new.carrier c.args.far.now c.close.new.far c.args.field.now
+    c.args.initiator.now
     c.on-pair.ensures.fresh c.requires.open_ c.close.ensures.ready c.args.counts (closes c.args.client.now.llc) (Ends all_closed c.close.new.self.llc) c.in-Ok.ensures.ok (λ left. refl)).open_ in
     subst (λ p. IsClosed c.args.far.now.end c.close.new.self.llc p.end)
     (sym (c.in-Ok-release.ensures.stays (takes_rls g.L.Listener g.L.PeerListener.target c.close.new.carrier.field.now c.close.new.carrier.initiator.now open_.in_step quiet)))
@@ -68,7 +75,8 @@ returns-in-Ok-release-clause-closed g c = λ accords quiet.
 
 pub returns-in-Err-release-clause-fails : goal.returns-in-Err-release-clause-fails
 returns-in-Err-release-clause-fails g c = λ accords quiet.
-    let open_ = (made g.L.Listener g.L.PeerListener.target (seen_pair {L = g.row.L.Denot}) (laws g) c.on-pair.result c.close.new.carrier c.args.far.now c.close.new.far c.args.field.now c.args.initiator.now
+    let open_ = (made g.L.Listener g.L.PeerListener.target (seen_pair {L = g.row.L.Denot}) (laws g) c.on-pair.result c.close.new.carrier c.args.far.now c.close.new.far c.args.field.now
+    c.args.initiator.now
     c.on-pair.ensures.fresh c.requires.open_ c.close.ensures.ready c.args.counts (closes c.args.client.now.llc) (Ends all_closed c.close.new.self.llc) c.in-Ok.ensures.ok (λ left. refl)).open_ in
     let same = c.in-Err-release.ensures.stays (takes_rls g.L.Listener g.L.PeerListener.target c.close.new.carrier.field.now c.close.new.carrier.initiator.now open_.in_step quiet) in
     let closed = c.in-Ok.ensures.closed (λ p. p.end) counted_is_peer accords in

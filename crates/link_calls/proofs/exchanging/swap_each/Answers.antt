@@ -17,7 +17,8 @@ loop-payload-init g c =
     record {
       ready = c.requires.ready;
       same = refl;
-      walks = subst (λ rs. Walks by_hand g.C.Carrier.seen g.C.Carrier.swaps g.A.Answerer.steps g.A.Answerer.stops from c.args.carrier.now c.args.far.now (sending c.args.payloads.now rs) c.args.carrier.now c.args.far.now) none
+      walks = subst (λ rs. Walks by_hand g.C.Carrier.seen g.C.Carrier.swaps g.A.Answerer.steps g.A.Answerer.stops from c.args.carrier.now c.args.far.now (sending c.args.payloads.now rs)
+          c.args.carrier.now c.args.far.now) none
           (walk_begins by_hand g.C.Carrier.seen g.C.Carrier.swaps g.A.Answerer.steps g.A.Answerer.stops from c.args.carrier.now c.args.far.now);
     }
 
@@ -30,7 +31,8 @@ returns-then-is_err-clause-err g c =
     let from : Course Sending (List (List ℕ)) = sending ps [] in
     let within : i < length ps = omega (arith, c.loop-payload-test.true) in
     let is : c.payload-item.result ≡ p = search rules in
-    let base = subst (λ left. Walks by_hand g.C.Carrier.seen g.C.Carrier.swaps g.A.Answerer.steps g.A.Answerer.stops from c.args.carrier.now c.args.far.now (sending left rs) c.loop-payload.carrier c.loop-payload.far)
+    let base = subst (λ left. Walks by_hand g.C.Carrier.seen g.C.Carrier.swaps g.A.Answerer.steps g.A.Answerer.stops from c.args.carrier.now c.args.far.now (sending left rs) c.loop-payload.carrier
+    c.loop-payload.far)
     (left_so ps i c.payload-item.result p within c.payload-item.is is) c.loop-payload.invariant.walks in
     walk_unread by_hand g.C.Carrier.seen g.C.Carrier.swaps g.A.Answerer.steps g.A.Answerer.stops from (record { payload = p; later = drop (i + 1) ps; replies = rs }) c.in-Ok.reply.items
     c.args.carrier.now c.loop-payload.carrier c.swap.new.self c.args.far.now c.loop-payload.far c.swap.new.far base c.in-Ok.ensures.ok c.in-Ok.ensures.swapped
@@ -45,7 +47,8 @@ returns-in-Err-clause-err g c =
     let within : i < length ps = omega (arith, c.loop-payload-test.true) in
     let is : c.payload-item.result ≡ p = search rules in
     let open_ : (g.C.Carrier.seen c.loop-payload.carrier).over ≡ None = c.loop-payload.invariant.walks.over ∙ c.requires.going in
-    let base = subst (λ left. Walks by_hand g.C.Carrier.seen g.C.Carrier.swaps g.A.Answerer.steps g.A.Answerer.stops from c.args.carrier.now c.args.far.now (sending left rs) c.loop-payload.carrier c.loop-payload.far)
+    let base = subst (λ left. Walks by_hand g.C.Carrier.seen g.C.Carrier.swaps g.A.Answerer.steps g.A.Answerer.stops from c.args.carrier.now c.args.far.now (sending left rs) c.loop-payload.carrier
+    c.loop-payload.far)
     (left_so ps i c.payload-item.result p within c.payload-item.is is) c.loop-payload.invariant.walks in
     walk_fails by_hand g.C.Carrier.seen g.C.Carrier.swaps g.A.Answerer.steps g.A.Answerer.stops from (record { payload = p; later = drop (i + 1) ps; replies = rs }) c.in-Err.end
     c.args.carrier.now c.loop-payload.carrier c.swap.new.self c.args.far.now c.loop-payload.far c.swap.new.far base (c.in-Err.ensures.err open_) (c.in-Err.ensures.failed open_)
@@ -60,12 +63,14 @@ loop-payload-preserved g c =
     let within : i < length ps = omega (arith, c.loop-payload-test.true) in
     let is : c.payload-item.result ≡ p = search rules in
     let same : rs ++ c.in-Ok.reply.items ∷ [] ≡ c.push.new.self.items = search rules in
-    let base = subst (λ left. Walks by_hand g.C.Carrier.seen g.C.Carrier.swaps g.A.Answerer.steps g.A.Answerer.stops from c.args.carrier.now c.args.far.now (sending left rs) c.loop-payload.carrier c.loop-payload.far)
+    let base = subst (λ left. Walks by_hand g.C.Carrier.seen g.C.Carrier.swaps g.A.Answerer.steps g.A.Answerer.stops from c.args.carrier.now c.args.far.now (sending left rs) c.loop-payload.carrier
+    c.loop-payload.far)
     (left_so ps i c.payload-item.result p within c.payload-item.is is) c.loop-payload.invariant.walks in
     record {
       ready = c.swap.ensures.ready;
       same = c.swap.ensures.same ∙ c.loop-payload.invariant.same;
-      walks = subst (λ more. Walks by_hand g.C.Carrier.seen g.C.Carrier.swaps g.A.Answerer.steps g.A.Answerer.stops from c.args.carrier.now c.args.far.now (sending (drop (i + 1) ps) more) c.swap.new.self c.swap.new.far) same
+      walks = subst (λ more. Walks by_hand g.C.Carrier.seen g.C.Carrier.swaps g.A.Answerer.steps g.A.Answerer.stops from c.args.carrier.now c.args.far.now (sending (drop (i + 1) ps) more)
+          c.swap.new.self c.swap.new.far) same
           (walk_then by_hand g.C.Carrier.seen g.C.Carrier.swaps g.A.Answerer.steps g.A.Answerer.stops from (record { payload = p; later = drop (i + 1) ps; replies = rs }) c.in-Ok.reply.items
           c.args.carrier.now c.loop-payload.carrier c.swap.new.self c.args.far.now c.loop-payload.far c.swap.new.far c.requires.going base c.in-Ok.ensures.ok c.in-Ok.ensures.swapped);
     }

@@ -62,5 +62,6 @@ returns-clause-stands c = λ bytes.
       place = 0;
       listener = l;
       alone = record { before = []; behind = []; split = listeners; stands = refl; first = tt; later = tt };
-      takes = takes_atr ghosts target (Says start) (keeps start (search rules, omega arith, search rules) (record { count = omega arith; times = (omega arith, omega arith) })) l (refl, record { named = refl; code = refl; says = refl; asks = refl; longer = refl }) bytes;
+      takes = takes_atr ghosts target (Says start) (keeps start (search rules, omega arith, search rules) (record { count = omega arith; times = (omega arith, omega arith) })) l
+          (refl, record { named = refl; code = refl; says = refl; asks = refl; longer = refl }) bytes;
     }

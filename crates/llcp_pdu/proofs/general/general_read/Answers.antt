@@ -19,7 +19,8 @@ params-preserved c =
       miu = search rules;
       reads = (
         next,
-        general_more c.args.bytes.now c.params.rest.now tail c.params.spoken (param c.in-Some-split_param.kind c.in-Some-split_param.value.now) place next c.params.invariant.reads.1 (c.in-Some-split_param.ensures.some place)
+        general_more c.args.bytes.now c.params.rest.now tail c.params.spoken (param c.in-Some-split_param.kind c.in-Some-split_param.value.now) place next c.params.invariant.reads.1
+            (c.in-Some-split_param.ensures.some place)
             ∙ ap (λ s. finished s (params tail 0 next)) (search rules),
       );
     }

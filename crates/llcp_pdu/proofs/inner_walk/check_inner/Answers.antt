@@ -16,7 +16,8 @@ pub returns-in_err-view_inner-clause-reads : goal.returns-in_err-view_inner-clau
 returns-in_err-view_inner-clause-reads c =
     let one = part c.in_ok-one.one.now (c.inner.at + 2) in
     passes c.from_residual-in_err-view_inner.result c.in_err-view_inner.field-0.0 (parts_in c.args.bytes.now) (inner c.args.bytes.now 0 c.args.start) (search rules)
-    ((inner_refused c.inner.invariant.reads.0 (inner c.args.bytes.now 0 c.args.start) (inner c.inner.rest.now 0 c.inner.at) (inner c.in_ok-one.tail.now 0 (c.inner.at + 2 + length c.in_ok-one.one.now)) one
+    ((inner_refused c.inner.invariant.reads.0 (inner c.args.bytes.now 0 c.args.start) (inner c.inner.rest.now 0 c.inner.at) (inner c.in_ok-one.tail.now 0 (c.inner.at + 2 + length c.in_ok-one.one.now))
+    one
     c.in_err-view_inner.field-0.0 c.inner.invariant.reads.1 c.in_ok-one.ensures.ok (one_refused one _ (search rules))))
 
 pub inner-preserved : goal.inner-preserved

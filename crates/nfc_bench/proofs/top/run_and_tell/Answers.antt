@@ -13,7 +13,8 @@ returns-in-Err-Refused-clause-refused g c = λ _.
     let t1 : Option (List ℕ) = g.K.Sink.taken c.run_script.new.sink in
     let w : ℕ = g.K.Sink.faults c.args.sink.now in
     let w1 : ℕ = g.K.Sink.faults c.run_script.new.sink in
-    let P : Stop → Type 0 = λ s. RunStops c.args.quiet left (g.S.Source.left c.run_script.new.source) t t1 (g.S.Source.faults c.args.source.now) (g.S.Source.faults c.run_script.new.source) w w1 c.run_script.new.bench s in
+    let P : Stop → Type 0 = λ s. RunStops c.args.quiet left (g.S.Source.left c.run_script.new.source) t t1 (g.S.Source.faults c.args.source.now) (g.S.Source.faults c.run_script.new.source) w w1
+    c.run_script.new.bench s in
     let s : P (Refused c.in-Err-Refused.n) = subst P c.in-Err-Refused.field-0-is c.in-Err-Refused.ensures.err in
     (ends_refused c.args.quiet left t t1 (g.K.Sink.taken c.write_fault.new.sink) w w1 (g.K.Sink.faults c.write_fault.new.sink) c.run_script.new.bench c.in-Err-Refused.n c.deref.result.now
     s (c.deref.ensures.0 ∙ c.refusal.ensures) c.run_script.ensures.writes c.write_fault.ensures.told)
@@ -25,7 +26,8 @@ returns-in-Err-Refused-clause-complete g c = λ bytes told all reads writes.
     let t1 : Option (List ℕ) = g.K.Sink.taken c.run_script.new.sink in
     let w : ℕ = g.K.Sink.faults c.args.sink.now in
     let w1 : ℕ = g.K.Sink.faults c.run_script.new.sink in
-    let P : Stop → Type 0 = λ s. RunStops c.args.quiet left (g.S.Source.left c.run_script.new.source) t t1 (g.S.Source.faults c.args.source.now) (g.S.Source.faults c.run_script.new.source) w w1 c.run_script.new.bench s in
+    let P : Stop → Type 0 = λ s. RunStops c.args.quiet left (g.S.Source.left c.run_script.new.source) t t1 (g.S.Source.faults c.args.source.now) (g.S.Source.faults c.run_script.new.source) w w1
+    c.run_script.new.bench s in
     let s : P (Refused c.in-Err-Refused.n) = subst P c.in-Err-Refused.field-0-is c.in-Err-Refused.ensures.err in
     absurd (taken_not_refused left bytes c.run_script.new.bench c.in-Err-Refused.n told all s.lines)
 

@@ -131,7 +131,8 @@ returns-in-Some-Make g c =
 
 pub make_and_tell-requires-clause-valid : goal.make_and_tell-requires-clause-valid
 make_and_tell-requires-clause-valid g c =
-    let of : FormOf (map string_bytes c.args.words.now) (Make c.in-Some-Make.seed c.in-Some-Make.count) = subst (FormOf (map string_bytes c.args.words.now)) c.in-Some-Make.field-0-is c.in-Some-Make.ensures.some in
+    let of : FormOf (map string_bytes c.args.words.now) (Make c.in-Some-Make.seed c.in-Some-Make.count) =
+    subst (FormOf (map string_bytes c.args.words.now)) c.in-Some-Make.field-0-is c.in-Some-Make.ensures.some in
     of.2
 
 pub returns-in-None : goal.returns-in-None

@@ -78,7 +78,8 @@ loop-preserved g c =
     record {
       lit = c.in_ok-answer.ensures.1;
       so_far = subst R goes turn;
-      vain = vain_turn g.L.Listener.machine inventory_all inventory c.args.field.now c.loop.field c.ask.new.field (Tries n c.loop.damaged) n c.loop.damaged c.match-branch-2.damaged c.in_ok-answer.field-0 c.loop.invariant.vain c.loop.invariant.so_far
+      vain = vain_turn g.L.Listener.machine inventory_all inventory c.args.field.now c.loop.field c.ask.new.field (Tries n c.loop.damaged) n c.loop.damaged c.match-branch-2.damaged
+          c.in_ok-answer.field-0 c.loop.invariant.vain c.loop.invariant.so_far
           (subst T c.inventory_req-request.ensures c.in_ok-answer.ensures.0) which;
     }
 
@@ -87,7 +88,8 @@ returns-in_err-answer-clause-lost g c =
     let E : Result Vcrowd PollFault → Type 0 = λ r. LosesByBreak c.args.field.now r c.ask.new.field in
     let same : c.from_residual.result ≡ Err c.in_err-answer.field-0.0 = grind (arith, common_steps) in
     subst E (sym same)
-    (lost_err g.L.Listener.machine inventory c.args.field.now c.loop.field c.ask.new.field (Tries c.loop.counter c.loop.damaged) c.inventory_req-request.result c.in_err-answer.field-0.0 c.loop.invariant.so_far c.in_err-answer.ensures)
+    (lost_err g.L.Listener.machine inventory c.args.field.now c.loop.field c.ask.new.field (Tries c.loop.counter c.loop.damaged) c.inventory_req-request.result c.in_err-answer.field-0.0
+    c.loop.invariant.so_far c.in_err-answer.ensures)
 
 pub loop-init : goal.loop-init
 loop-init g c = record {

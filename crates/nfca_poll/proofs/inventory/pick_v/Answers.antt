@@ -22,7 +22,8 @@ returns-in_err-answer-clause-turns g c lit =
     let E : Result (Unit {0}) PollFault → Type 0 = λ r. Enquires (picking_v c.args.id) g.L.Listener.machine c.args.field.now r c.ask.new.field in
     let same : c.from_residual.result ≡ Err c.in_err-answer.field-0.0 = grind (arith, common_steps) in
     subst E (sym same)
-    (enquires_err (picking_v c.args.id) g.L.Listener.machine c.args.field.now c.loop.field c.ask.new.field (Tries n false) c.inventory_req_of-request.result c.in_err-answer.field-0.0 c.loop.invariant.so_far
+    (enquires_err (picking_v c.args.id) g.L.Listener.machine c.args.field.now c.loop.field c.ask.new.field (Tries n false) c.inventory_req_of-request.result c.in_err-answer.field-0.0
+    c.loop.invariant.so_far
     (asks_again (Unit {0}) (inventory_of c.args.id) c.inventory_req_of-request.result n false h c.inventory_req_of-request.ensures) (pick_again n false h) c.in_err-answer.ensures)
 
 pub returns-in-Some-clause-turns : goal.returns-in-Some-clause-turns
@@ -32,7 +33,8 @@ returns-in-Some-clause-turns g c lit =
     let s : Inventory (Unit {0}) = pick_step (Tries n false) c.in_ok-answer.field-0 in
     let there : is_present c.in-Whole.answer ≡ true = c.in-Some.ensures.exact.0 refl in
     enquires_end (picking_v c.args.id) g.L.Listener.machine c.args.field.now c.ask.new.field s (Ok _)
-    (reached_turn (picking_v c.args.id) g.L.Listener.machine c.args.field.now c.loop.field c.ask.new.field (Tries n false) c.inventory_req_of-request.result c.in_ok-answer.field-0 c.loop.invariant.so_far
+    (reached_turn (picking_v c.args.id) g.L.Listener.machine c.args.field.now c.loop.field c.ask.new.field (Tries n false) c.inventory_req_of-request.result c.in_ok-answer.field-0
+    c.loop.invariant.so_far
     (asks_again (Unit {0}) (inventory_of c.args.id) c.inventory_req_of-request.result n false h c.inventory_req_of-request.ensures) c.in_ok-answer.ensures)
     (ap (λ x. pick_ended (pick_step (Tries n false) x)) c.in-Whole.is ∙ pick_present n false c.in-Whole.answer there)
 
@@ -43,7 +45,8 @@ returns-in-None-clause-turns g c lit =
     let s : Inventory (Unit {0}) = pick_step (Tries n false) c.in_ok-answer.field-0 in
     let strange : is_present c.in-Whole.answer ≡ false = not_true (is_present c.in-Whole.answer) (λ e. absurd (let f : false ≡ true = c.in-None.ensures.exact.1 e in cc)) in
     enquires_end (picking_v c.args.id) g.L.Listener.machine c.args.field.now c.ask.new.field s (Err _)
-    (reached_turn (picking_v c.args.id) g.L.Listener.machine c.args.field.now c.loop.field c.ask.new.field (Tries n false) c.inventory_req_of-request.result c.in_ok-answer.field-0 c.loop.invariant.so_far
+    (reached_turn (picking_v c.args.id) g.L.Listener.machine c.args.field.now c.loop.field c.ask.new.field (Tries n false) c.inventory_req_of-request.result c.in_ok-answer.field-0
+    c.loop.invariant.so_far
     (asks_again (Unit {0}) (inventory_of c.args.id) c.inventory_req_of-request.result n false h c.inventory_req_of-request.ensures) c.in_ok-answer.ensures)
     (ap (λ x. pick_ended (pick_step (Tries n false) x)) c.in-Whole.is ∙ pick_strange n false c.in-Whole.answer strange)
 
@@ -54,7 +57,8 @@ returns-in-Collided-clause-turns g c lit =
     let s : Inventory (Unit {0}) = pick_step (Tries n false) c.in_ok-answer.field-0 in
     let picks : pick_ended s ≡ Some (Ok tt) = elim c.in-Collided.is [ inl w ↦ ap (λ x. pick_ended (pick_step (Tries n false) x)) w.1 | inr w ↦ ap (λ x. pick_ended (pick_step (Tries n false) x)) w ] in
     enquires_end (picking_v c.args.id) g.L.Listener.machine c.args.field.now c.ask.new.field s (Ok tt)
-    (reached_turn (picking_v c.args.id) g.L.Listener.machine c.args.field.now c.loop.field c.ask.new.field (Tries n false) c.inventory_req_of-request.result c.in_ok-answer.field-0 c.loop.invariant.so_far
+    (reached_turn (picking_v c.args.id) g.L.Listener.machine c.args.field.now c.loop.field c.ask.new.field (Tries n false) c.inventory_req_of-request.result c.in_ok-answer.field-0
+    c.loop.invariant.so_far
     (asks_again (Unit {0}) (inventory_of c.args.id) c.inventory_req_of-request.result n false h c.inventory_req_of-request.ensures) c.in_ok-answer.ensures)
     picks
 
@@ -64,14 +68,16 @@ loop-preserved g c =
     let h : n < 4 = omega arith in
     let R : Inventory (Unit {0}) → Type 0 = λ s. Reached (picking_v c.args.id) g.L.Listener.machine c.args.field.now c.ask.new.field s in
     let turn : R (pick_step (Tries n false) c.in_ok-answer.field-0) =
-    reached_turn (picking_v c.args.id) g.L.Listener.machine c.args.field.now c.loop.field c.ask.new.field (Tries n false) c.inventory_req_of-request.result c.in_ok-answer.field-0 c.loop.invariant.so_far
+    reached_turn (picking_v c.args.id) g.L.Listener.machine c.args.field.now c.loop.field c.ask.new.field (Tries n false) c.inventory_req_of-request.result c.in_ok-answer.field-0
+    c.loop.invariant.so_far
     (asks_again (Unit {0}) (inventory_of c.args.id) c.inventory_req_of-request.result n false h c.inventory_req_of-request.ensures) c.in_ok-answer.ensures in
     let goes : pick_step (Tries n false) c.in_ok-answer.field-0 ≡ Tries (n + 1) false = ap (pick_step (Tries n false)) c.in-Silent.is in
     let T : Signal → Type 0 = λ x. TurnsTo (mute_air g.L.Listener.machine) (moment c.loop.field) (moment c.ask.new.field) x (Some c.in_ok-answer.field-0) in
     record {
       lit = c.in_ok-answer.ensures.1;
       so_far = subst R goes turn;
-      vain = vain_turn g.L.Listener.machine (inventory_of c.args.id) (picking_v c.args.id) c.args.field.now c.loop.field c.ask.new.field (Tries n false) n false false c.in_ok-answer.field-0 c.loop.invariant.vain c.loop.invariant.so_far
+      vain = vain_turn g.L.Listener.machine (inventory_of c.args.id) (picking_v c.args.id) c.args.field.now c.loop.field c.ask.new.field (Tries n false) n false false c.in_ok-answer.field-0
+          c.loop.invariant.vain c.loop.invariant.so_far
           (subst T c.inventory_req_of-request.ensures c.in_ok-answer.ensures.0) (inl (c.in-Silent.is, refl));
     }
 
@@ -80,7 +86,8 @@ returns-in_err-answer-clause-lost g c =
     let E : Result (Unit {0}) PollFault → Type 0 = λ r. LosesByBreak c.args.field.now r c.ask.new.field in
     let same : c.from_residual.result ≡ Err c.in_err-answer.field-0.0 = grind (arith, common_steps) in
     subst E (sym same)
-    (lost_err g.L.Listener.machine (picking_v c.args.id) c.args.field.now c.loop.field c.ask.new.field (Tries c.loop.counter false) c.inventory_req_of-request.result c.in_err-answer.field-0.0 c.loop.invariant.so_far c.in_err-answer.ensures)
+    (lost_err g.L.Listener.machine (picking_v c.args.id) c.args.field.now c.loop.field c.ask.new.field (Tries c.loop.counter false) c.inventory_req_of-request.result c.in_err-answer.field-0.0
+    c.loop.invariant.so_far c.in_err-answer.ensures)
 
 pub loop-init : goal.loop-init
 loop-init g c = record {
@@ -105,7 +112,8 @@ returns-in-None-clause-cause g c lit s =
       not_found = λ e. absurd cc;
       bad = λ e well.
           let yes : is_present c.in-Whole.answer ≡ true =
-          well_heard m (inventory_of c.args.id) (picking_v c.args.id) is_present c.args.field.now c.loop.field c.ask.new.field c.loop.counter false c.in_ok-answer.field-0 c.in-Whole.answer c.loop.invariant.vain
+          well_heard m (inventory_of c.args.id) (picking_v c.args.id) is_present c.args.field.now c.loop.field c.ask.new.field c.loop.counter false c.in_ok-answer.field-0 c.in-Whole.answer
+          c.loop.invariant.vain
           (subst T c.inventory_req_of-request.ensures c.in_ok-answer.ensures.0) c.in-Whole.is s well in
           cc;
     }
@@ -124,7 +132,8 @@ returns-in-Collided-clause-told g c lit = tells_picked_v c.args.id g.L.Listener.
 
 pub returns-clause-turns : goal.returns-clause-turns
 returns-clause-turns g c lit =
-    enquires_end (picking_v c.args.id) g.L.Listener.machine c.args.field.now c.loop.field (Tries c.loop.counter false) (Err faults.NotFound) c.loop.invariant.so_far (pick_over c.loop.counter false (omega arith))
+    enquires_end (picking_v c.args.id) g.L.Listener.machine c.args.field.now c.loop.field (Tries c.loop.counter false) (Err faults.NotFound) c.loop.invariant.so_far
+    (pick_over c.loop.counter false (omega arith))
 
 pub returns-clause-told : goal.returns-clause-told
 returns-clause-told g c lit = tells_picked_v c.args.id g.L.Listener.machine c.args.field.now c.loop.field _ (returns-clause-turns g c lit)

@@ -24,7 +24,8 @@ returns-in_err-heard-clause-turns g c lit =
     let E : Result Picked PollFault → Type 0 = λ r. Enquires resolution g.L.Listener.machine c.args.field.now r c.ask.new.field in
     let same : c.from_residual.result ≡ Err c.in_err-heard.field-0.0 = grind (arith, common_steps) in
     subst E (sym same)
-    (enquires_err resolution g.L.Listener.machine c.args.field.now c.loop-heard.field c.ask.new.field (seek_of c.loop-heard.seeking) c.request.result c.in_err-heard.field-0.0 c.loop-heard.invariant.so_far
+    (enquires_err resolution g.L.Listener.machine c.args.field.now c.loop-heard.field c.ask.new.field (seek_of c.loop-heard.seeking) c.request.result c.in_err-heard.field-0.0
+    c.loop-heard.invariant.so_far
     (due_of_request c.loop-heard.seeking c.request.result c.request.ensures) (goes_on c.loop-heard.seeking) c.in_err-heard.ensures)
 
 pub loop-heard-smaller : goal.loop-heard-smaller
@@ -43,22 +44,28 @@ loop-heard-preserved g c =
     record {
       lit = c.in_ok-heard.ensures.1;
       so_far = subst P (sym c.in-Goes.ensures)
-          (reached_turn resolution g.L.Listener.machine c.args.field.now c.loop-heard.field c.ask.new.field (seek_of c.loop-heard.seeking) c.request.result c.in_ok-heard.heard c.loop-heard.invariant.so_far
+          (reached_turn resolution g.L.Listener.machine c.args.field.now c.loop-heard.field c.ask.new.field (seek_of c.loop-heard.seeking) c.request.result c.in_ok-heard.heard
+          c.loop-heard.invariant.so_far
           (due_of_request c.loop-heard.seeking c.request.result c.request.ensures) c.in_ok-heard.ensures);
       count = subst K (sym c.in-Goes.ensures)
-          (counted_turn g.L.Listener.machine c.args.field.now c.loop-heard.field c.ask.new.field c.loop-heard.seeking c.request.result c.in_ok-heard.heard c.loop-heard.invariant.count c.loop-heard.invariant.so_far
+          (counted_turn g.L.Listener.machine c.args.field.now c.loop-heard.field c.ask.new.field c.loop-heard.seeking c.request.result c.in_ok-heard.heard c.loop-heard.invariant.count
+          c.loop-heard.invariant.so_far
           c.request.ensures c.in_ok-heard.ensures);
       noisy = subst H (sym c.in-Goes.ensures)
-          (holds_turn g.L.Listener.machine g.L.Listener.identifier c.args.field.now c.loop-heard.field c.ask.new.field c.loop-heard.seeking c.request.result c.in_ok-heard.heard c.loop-heard.invariant.noisy c.loop-heard.invariant.so_far
+          (holds_turn g.L.Listener.machine g.L.Listener.identifier c.args.field.now c.loop-heard.field c.ask.new.field c.loop-heard.seeking c.request.result c.in_ok-heard.heard
+          c.loop-heard.invariant.noisy c.loop-heard.invariant.so_far
           c.request.ensures c.in_ok-heard.ensures);
       nobody = subst N (sym c.in-Goes.ensures)
-          (sleepers_turn g.L.Listener.machine g.L.Listener.identifier c.args.field.now c.loop-heard.field c.ask.new.field c.loop-heard.seeking c.request.result c.in_ok-heard.heard c.loop-heard.invariant.nobody
+          (sleepers_turn g.L.Listener.machine g.L.Listener.identifier c.args.field.now c.loop-heard.field c.ask.new.field c.loop-heard.seeking c.request.result c.in_ok-heard.heard
+          c.loop-heard.invariant.nobody
           c.request.ensures c.in_ok-heard.ensures);
       any = subst M (sym c.in-Goes.ensures)
-          (mixes_turn g.L.Listener.machine g.L.Listener.identifier c.args.field.now c.loop-heard.field c.ask.new.field c.loop-heard.seeking c.request.result c.in_ok-heard.heard c.loop-heard.invariant.any c.loop-heard.invariant.so_far
+          (mixes_turn g.L.Listener.machine g.L.Listener.identifier c.args.field.now c.loop-heard.field c.ask.new.field c.loop-heard.seeking c.request.result c.in_ok-heard.heard
+          c.loop-heard.invariant.any c.loop-heard.invariant.so_far
           c.request.ensures c.in_ok-heard.ensures);
       alone = subst U (sym c.in-Goes.ensures)
-          (frees_turn g.L.Listener.machine g.L.Listener.identifier c.args.field.now c.loop-heard.field c.ask.new.field c.loop-heard.seeking c.request.result c.in_ok-heard.heard c.loop-heard.invariant.alone c.loop-heard.invariant.so_far
+          (frees_turn g.L.Listener.machine g.L.Listener.identifier c.args.field.now c.loop-heard.field c.ask.new.field c.loop-heard.seeking c.request.result c.in_ok-heard.heard
+          c.loop-heard.invariant.alone c.loop-heard.invariant.so_far
           c.request.ensures c.in_ok-heard.ensures);
     }
 
@@ -82,13 +89,15 @@ loop-heard-init g c = record {
 
 pub returns-in_err-heard-clause-few : goal.returns-in_err-heard-clause-few
 returns-in_err-heard-clause-few g c =
-    few_err g.L.Listener.machine c.args.field.now c.loop-heard.field c.ask.new.field c.loop-heard.seeking c.request.result c.in_err-heard.field-0.0 c.loop-heard.invariant.count c.loop-heard.invariant.so_far c.request.ensures
+    few_err g.L.Listener.machine c.args.field.now c.loop-heard.field c.ask.new.field c.loop-heard.seeking c.request.result c.in_err-heard.field-0.0 c.loop-heard.invariant.count
+    c.loop-heard.invariant.so_far c.request.ensures
     c.in_err-heard.ensures
 
 pub returns-in-Ends-clause-few : goal.returns-in-Ends-clause-few
 returns-in-Ends-clause-few g c =
     few_asked g.L.Listener.machine c.args.field.now c.ask.new.field (seek_step (seek_of c.loop-heard.seeking) c.in_ok-heard.heard)
-    (counted_turn g.L.Listener.machine c.args.field.now c.loop-heard.field c.ask.new.field c.loop-heard.seeking c.request.result c.in_ok-heard.heard c.loop-heard.invariant.count c.loop-heard.invariant.so_far
+    (counted_turn g.L.Listener.machine c.args.field.now c.loop-heard.field c.ask.new.field c.loop-heard.seeking c.request.result c.in_ok-heard.heard c.loop-heard.invariant.count
+    c.loop-heard.invariant.so_far
     c.request.ensures c.in_ok-heard.ensures)
 
 pub returns-in_err-heard-clause-lost : goal.returns-in_err-heard-clause-lost
@@ -96,7 +105,8 @@ returns-in_err-heard-clause-lost g c =
     let E : Result Picked PollFault → Type 0 = λ r. LosesByBreak c.args.field.now r c.ask.new.field in
     let same : c.from_residual.result ≡ Err c.in_err-heard.field-0.0 = grind (arith, common_steps) in
     subst E (sym same)
-    (lost_err g.L.Listener.machine resolution c.args.field.now c.loop-heard.field c.ask.new.field (seek_of c.loop-heard.seeking) c.request.result c.in_err-heard.field-0.0 c.loop-heard.invariant.so_far c.in_err-heard.ensures)
+    (lost_err g.L.Listener.machine resolution c.args.field.now c.loop-heard.field c.ask.new.field (seek_of c.loop-heard.seeking) c.request.result c.in_err-heard.field-0.0 c.loop-heard.invariant.so_far
+    c.in_err-heard.ensures)
 
 pub returns-in-Ends-clause-lost : goal.returns-in-Ends-clause-lost
 returns-in-Ends-clause-lost g c e = absurd (never_lost c.in-Ends.ensures.0 (sym c.in-Ends.ensures.2 ∙ e))
@@ -106,12 +116,14 @@ returns-in_err-heard-clause-any g c lit polled =
     let E : Result Picked PollFault → Type 0 = λ r. PicksFromAny polled.ours c.args.field.now r c.ask.new.field in
     let same : c.from_residual.result ≡ Err c.in_err-heard.field-0.0 = grind (arith, common_steps) in
     subst E (sym same)
-    (mixes_err g.L.Listener.machine g.L.Listener.identifier c.args.field.now c.loop-heard.field c.ask.new.field c.loop-heard.seeking c.request.result c.in_err-heard.field-0.0 c.loop-heard.invariant.any c.in_err-heard.ensures polled.ours polled.yields)
+    (mixes_err g.L.Listener.machine g.L.Listener.identifier c.args.field.now c.loop-heard.field c.ask.new.field c.loop-heard.seeking c.request.result c.in_err-heard.field-0.0
+    c.loop-heard.invariant.any c.in_err-heard.ensures polled.ours polled.yields)
 
 pub returns-in-Ends-clause-any : goal.returns-in-Ends-clause-any
 returns-in-Ends-clause-any g c lit polled =
     mixes_end g.L.Listener.machine g.L.Listener.identifier c.args.field.now c.ask.new.field (seek_step (seek_of c.loop-heard.seeking) c.in_ok-heard.heard) c.in-Ends.ensures.0 c.in-Ends.result
-    (mixes_turn g.L.Listener.machine g.L.Listener.identifier c.args.field.now c.loop-heard.field c.ask.new.field c.loop-heard.seeking c.request.result c.in_ok-heard.heard c.loop-heard.invariant.any c.loop-heard.invariant.so_far
+    (mixes_turn g.L.Listener.machine g.L.Listener.identifier c.args.field.now c.loop-heard.field c.ask.new.field c.loop-heard.seeking c.request.result c.in_ok-heard.heard c.loop-heard.invariant.any
+    c.loop-heard.invariant.so_far
     c.request.ensures c.in_ok-heard.ensures)
     c.in-Ends.ensures.1 c.in-Ends.ensures.2 polled.ours polled.yields
 
@@ -120,12 +132,14 @@ returns-in_err-heard-clause-alone g c lit polled =
     let E : Result Picked PollFault → Type 0 = λ r. PicksAlone polled.ours polled.unlinked c.args.field.now r c.ask.new.field in
     let same : c.from_residual.result ≡ Err c.in_err-heard.field-0.0 = grind (arith, common_steps) in
     subst E (sym same)
-    (frees_err g.L.Listener.machine g.L.Listener.identifier c.args.field.now c.loop-heard.field c.ask.new.field c.loop-heard.seeking c.request.result c.in_err-heard.field-0.0 c.loop-heard.invariant.alone c.in_err-heard.ensures polled.ours polled.unlinked polled.leaves)
+    (frees_err g.L.Listener.machine g.L.Listener.identifier c.args.field.now c.loop-heard.field c.ask.new.field c.loop-heard.seeking c.request.result c.in_err-heard.field-0.0
+    c.loop-heard.invariant.alone c.in_err-heard.ensures polled.ours polled.unlinked polled.leaves)
 
 pub returns-in-Ends-clause-alone : goal.returns-in-Ends-clause-alone
 returns-in-Ends-clause-alone g c lit polled =
     frees_end g.L.Listener.machine g.L.Listener.identifier c.args.field.now c.ask.new.field (seek_step (seek_of c.loop-heard.seeking) c.in_ok-heard.heard) c.in-Ends.ensures.0 c.in-Ends.result
-    (frees_turn g.L.Listener.machine g.L.Listener.identifier c.args.field.now c.loop-heard.field c.ask.new.field c.loop-heard.seeking c.request.result c.in_ok-heard.heard c.loop-heard.invariant.alone c.loop-heard.invariant.so_far
+    (frees_turn g.L.Listener.machine g.L.Listener.identifier c.args.field.now c.loop-heard.field c.ask.new.field c.loop-heard.seeking c.request.result c.in_ok-heard.heard c.loop-heard.invariant.alone
+    c.loop-heard.invariant.so_far
     c.request.ensures c.in_ok-heard.ensures)
     c.in-Ends.ensures.1 c.in-Ends.ensures.2 polled.ours polled.unlinked polled.leaves
 
@@ -148,11 +162,13 @@ pub returns-in-Ends-clause-crowd : goal.returns-in-Ends-clause-crowd
 returns-in-Ends-clause-crowd g c lit ours =
     from_rest g.L.Listener.machine g.L.Listener.identifier ours c.args.field.now c.ask.new.field c.in-Ends.result
     (holds_end g.L.Listener.machine g.L.Listener.identifier c.args.field.now c.ask.new.field (seek_step (seek_of c.loop-heard.seeking) c.in_ok-heard.heard) c.in-Ends.ensures.0 c.in-Ends.result
-    (holds_turn g.L.Listener.machine g.L.Listener.identifier c.args.field.now c.loop-heard.field c.ask.new.field c.loop-heard.seeking c.request.result c.in_ok-heard.heard c.loop-heard.invariant.noisy c.loop-heard.invariant.so_far
+    (holds_turn g.L.Listener.machine g.L.Listener.identifier c.args.field.now c.loop-heard.field c.ask.new.field c.loop-heard.seeking c.request.result c.in_ok-heard.heard c.loop-heard.invariant.noisy
+    c.loop-heard.invariant.so_far
     c.request.ensures c.in_ok-heard.ensures)
     c.in-Ends.ensures.1 c.in-Ends.ensures.2 ours)
     (sleepers_end g.L.Listener.machine g.L.Listener.identifier c.args.field.now c.ask.new.field (seek_step (seek_of c.loop-heard.seeking) c.in_ok-heard.heard) c.in-Ends.ensures.0 c.in-Ends.result
-    (sleepers_turn g.L.Listener.machine g.L.Listener.identifier c.args.field.now c.loop-heard.field c.ask.new.field c.loop-heard.seeking c.request.result c.in_ok-heard.heard c.loop-heard.invariant.nobody c.request.ensures
+    (sleepers_turn g.L.Listener.machine g.L.Listener.identifier c.args.field.now c.loop-heard.field c.ask.new.field c.loop-heard.seeking c.request.result c.in_ok-heard.heard
+    c.loop-heard.invariant.nobody c.request.ensures
     c.in_ok-heard.ensures)
     c.in-Ends.ensures.1 c.in-Ends.ensures.2 ours)
 

@@ -27,7 +27,8 @@ loop-preserved g c =
     let R : Search (List Picked) → Type 0 = λ s. Reached finding m c.args.field.now c.loop.field s in
     let E : RoundEnd → Type 0 = λ e. Enquires (one_round None) m c.loop.field (Ok e) c.round.new.field in
     let lost : c.in_ok-found.field-0 ≡ ends.Disturbed = given_up m c.loop.field c.round.new.field c.in_ok-found.field-0 c.in_default.not-Nobody c.in_ok-found.ensures.turns in
-    round_came all_devices None (λ kind. []) (λ p. refl) (n + 1) m c.args.field.now c.round.new.field c.loop.field ends.Disturbed (subst R (round_begins n h) c.loop.invariant) (subst E lost c.in_ok-found.ensures.turns)
+    round_came all_devices None (λ kind. []) (λ p. refl) (n + 1) m c.args.field.now c.round.new.field c.loop.field ends.Disturbed (subst R (round_begins n h) c.loop.invariant)
+    (subst E lost c.in_ok-found.ensures.turns)
 
 pub returns-in_err-found-clause-turns : goal.returns-in_err-found-clause-turns
 returns-in_err-found-clause-turns g c =
@@ -38,7 +39,8 @@ returns-in_err-found-clause-turns g c =
     let E : Result (List Picked) PollFault → Type 0 = λ r. Enquires finding m c.args.field.now r c.round.new.field in
     let same : c.from_residual.result ≡ Err c.in_err-found.field-0.0 = grind (arith, common_steps) in
     subst E (sym (ap listed same))
-    (round_failed all_devices None (λ kind. []) (λ p. refl) (n + 1) m c.args.field.now c.round.new.field c.loop.field c.in_err-found.field-0.0 (subst R (round_begins n h) c.loop.invariant) c.in_err-found.ensures.turns)
+    (round_failed all_devices None (λ kind. []) (λ p. refl) (n + 1) m c.args.field.now c.round.new.field c.loop.field c.in_err-found.field-0.0 (subst R (round_begins n h) c.loop.invariant)
+    c.in_err-found.ensures.turns)
 
 pub returns-in_err-found-clause-lit : goal.returns-in_err-found-clause-lit
 returns-in_err-found-clause-lit g c = find_lit g.L.Listener.machine c.args.field.now c.round.new.field (listed c.from_residual.result) (returns-in_err-found-clause-turns g c)
@@ -50,7 +52,8 @@ pub returns-in_err-found-clause-rounds : goal.returns-in_err-found-clause-rounds
 returns-in_err-found-clause-rounds g c = find_rounds g.L.Listener.machine c.args.field.now c.round.new.field (listed c.from_residual.result) (returns-in_err-found-clause-turns g c)
 
 pub returns-in_err-found-clause-crowd : goal.returns-in_err-found-clause-crowd
-returns-in_err-found-clause-crowd g c = finds_crowd g.L.Listener.machine g.L.Listener.identifier c.args.field.now c.round.new.field (listed c.from_residual.result) (returns-in_err-found-clause-turns g c)
+returns-in_err-found-clause-crowd g c = finds_crowd g.L.Listener.machine g.L.Listener.identifier c.args.field.now c.round.new.field (listed c.from_residual.result)
+    (returns-in_err-found-clause-turns g c)
 
 pub returns-in_err-found-clause-other : goal.returns-in_err-found-clause-other
 returns-in_err-found-clause-other g c = find_other g.L.Listener.machine c.args.field.now c.round.new.field (listed c.from_residual.result) (returns-in_err-found-clause-turns g c)

@@ -40,7 +40,8 @@ returns-in_err-round-clause-turns g c =
     let E : Result Kind PollFault → Type 0 = λ r. Enquires (picking id) m c.args.field.now r c.round.new.field in
     let same : c.from_residual.result ≡ Err c.in_err-round.field-0.0 = grind (arith, common_steps) in
     subst E (sym same)
-    (round_failed (device_of id) (Some id) (λ kind. kind) (λ p. refl) (n + 1) m c.args.field.now c.round.new.field c.loop.field c.in_err-round.field-0.0 (subst R (round_begins n h) c.loop.invariant) c.in_err-round.ensures.turns)
+    (round_failed (device_of id) (Some id) (λ kind. kind) (λ p. refl) (n + 1) m c.args.field.now c.round.new.field c.loop.field c.in_err-round.field-0.0 (subst R (round_begins n h) c.loop.invariant)
+    c.in_err-round.ensures.turns)
 
 pub returns-in_err-round-clause-lit : goal.returns-in_err-round-clause-lit
 returns-in_err-round-clause-lit g c = pick_lit c.args.id.now g.L.Listener.machine c.args.field.now c.round.new.field c.from_residual.result (returns-in_err-round-clause-turns g c)
@@ -52,7 +53,8 @@ pub returns-in_err-round-clause-rounds : goal.returns-in_err-round-clause-rounds
 returns-in_err-round-clause-rounds g c = pick_rounds c.args.id.now g.L.Listener.machine c.args.field.now c.round.new.field c.from_residual.result (returns-in_err-round-clause-turns g c)
 
 pub returns-in_err-round-clause-crowd : goal.returns-in_err-round-clause-crowd
-returns-in_err-round-clause-crowd g c = selects_alone g.L.Listener.machine g.L.Listener.identifier c.args.id.now c.args.field.now c.round.new.field c.from_residual.result (returns-in_err-round-clause-turns g c)
+returns-in_err-round-clause-crowd g c = selects_alone g.L.Listener.machine g.L.Listener.identifier c.args.id.now c.args.field.now c.round.new.field c.from_residual.result
+    (returns-in_err-round-clause-turns g c)
 
 pub returns-in_err-round-clause-other : goal.returns-in_err-round-clause-other
 returns-in_err-round-clause-other g c = pick_other c.args.id.now g.L.Listener.machine c.args.field.now c.round.new.field c.from_residual.result (returns-in_err-round-clause-turns g c)
@@ -66,7 +68,8 @@ returns-in-Nobody-clause-turns g c =
     let R : Search Kind → Type 0 = λ s. Reached (picking id) m c.args.field.now c.loop.field s in
     let E : RoundEnd → Type 0 = λ e. Enquires (one_round (Some id)) m c.loop.field (Ok e) c.round.new.field in
     enquires_end (picking id) m c.args.field.now c.round.new.field (Told (Err faults.NotFound)) (Err faults.NotFound)
-    (round_came (device_of id) (Some id) (λ kind. kind) (λ p. refl) (n + 1) m c.args.field.now c.round.new.field c.loop.field (ends.Nobody c.in-Nobody.field-0) (subst R (round_begins n h) c.loop.invariant)
+    (round_came (device_of id) (Some id) (λ kind. kind) (λ p. refl) (n + 1) m c.args.field.now c.round.new.field c.loop.field (ends.Nobody c.in-Nobody.field-0)
+    (subst R (round_begins n h) c.loop.invariant)
     (subst E c.in-Nobody.is c.in_ok-round.ensures.turns))
     refl
 
@@ -77,7 +80,8 @@ pub returns-in-Nobody-clause-rounds : goal.returns-in-Nobody-clause-rounds
 returns-in-Nobody-clause-rounds g c = pick_rounds c.args.id.now g.L.Listener.machine c.args.field.now c.round.new.field (Err faults.NotFound) (returns-in-Nobody-clause-turns g c)
 
 pub returns-in-Nobody-clause-crowd : goal.returns-in-Nobody-clause-crowd
-returns-in-Nobody-clause-crowd g c = selects_alone g.L.Listener.machine g.L.Listener.identifier c.args.id.now c.args.field.now c.round.new.field (Err faults.NotFound) (returns-in-Nobody-clause-turns g c)
+returns-in-Nobody-clause-crowd g c = selects_alone g.L.Listener.machine g.L.Listener.identifier c.args.id.now c.args.field.now c.round.new.field (Err faults.NotFound)
+    (returns-in-Nobody-clause-turns g c)
 
 pub returns-in-Selected-clause-turns : goal.returns-in-Selected-clause-turns
 returns-in-Selected-clause-turns g c =
@@ -88,7 +92,8 @@ returns-in-Selected-clause-turns g c =
     let R : Search Kind → Type 0 = λ s. Reached (picking id) m c.args.field.now c.loop.field s in
     let E : RoundEnd → Type 0 = λ e. Enquires (one_round (Some id)) m c.loop.field (Ok e) c.round.new.field in
     enquires_end (picking id) m c.args.field.now c.round.new.field (Told (Ok c.in-Selected.kind)) (Ok c.in-Selected.kind)
-    (round_came (device_of id) (Some id) (λ kind. kind) (λ p. refl) (n + 1) m c.args.field.now c.round.new.field c.loop.field (ends.Selected c.in-Selected.kind) (subst R (round_begins n h) c.loop.invariant)
+    (round_came (device_of id) (Some id) (λ kind. kind) (λ p. refl) (n + 1) m c.args.field.now c.round.new.field c.loop.field (ends.Selected c.in-Selected.kind)
+    (subst R (round_begins n h) c.loop.invariant)
     (subst E c.in-Selected.is c.in_ok-round.ensures.turns))
     refl
 
@@ -99,7 +104,8 @@ pub returns-in-Selected-clause-rounds : goal.returns-in-Selected-clause-rounds
 returns-in-Selected-clause-rounds g c = pick_rounds c.args.id.now g.L.Listener.machine c.args.field.now c.round.new.field (Ok c.in-Selected.kind) (returns-in-Selected-clause-turns g c)
 
 pub returns-in-Selected-clause-crowd : goal.returns-in-Selected-clause-crowd
-returns-in-Selected-clause-crowd g c = selects_alone g.L.Listener.machine g.L.Listener.identifier c.args.id.now c.args.field.now c.round.new.field (Ok c.in-Selected.kind) (returns-in-Selected-clause-turns g c)
+returns-in-Selected-clause-crowd g c = selects_alone g.L.Listener.machine g.L.Listener.identifier c.args.id.now c.args.field.now c.round.new.field (Ok c.in-Selected.kind)
+    (returns-in-Selected-clause-turns g c)
 
 pub returns-clause-turns : goal.returns-clause-turns
 returns-clause-turns g c =

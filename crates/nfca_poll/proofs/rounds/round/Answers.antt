@@ -37,7 +37,8 @@ loop-device-init g c =
     record {
       lit = ap (λ a. a.lit) same;
       few = grind (arith, common_steps);
-      so_far = subst R (sym c.new-found.ensures) (reached_reset (one_round w) m c.args.field.now c.args.field.now c.reset.new.self (Begins 1) (reached_start (one_round w) m c.args.field.now) refl same);
+      so_far = subst R (sym c.new-found.ensures) (reached_reset (one_round w) m c.args.field.now c.args.field.now c.reset.new.self (Begins 1) (reached_start (one_round w) m c.args.field.now) refl
+          same);
     }
 
 pub returns-in-Err-Nobody : goal.returns-in-Err-Nobody
@@ -148,7 +149,8 @@ loop-device-preserved g c =
       lit = c.in_ok-ask.ensures.1;
       few = grind (arith, common_steps);
       so_far = subst N (sym grown)
-          (reached_turn (one_round w) m c.args.field.now c.resolve.new.field c.ask.new.field (Sends 1 (c.loop-device.found ++ d ∷ [])) c.slp_req.result c.in_ok-ask.field-0 met (ap Asks (sym c.slp_req.ensures)) c.in_ok-ask.ensures);
+          (reached_turn (one_round w) m c.args.field.now c.resolve.new.field c.ask.new.field (Sends 1 (c.loop-device.found ++ d ∷ [])) c.slp_req.result c.in_ok-ask.field-0 met
+          (ap Asks (sym c.slp_req.ensures)) c.in_ok-ask.ensures);
     }
 
 pub returns-in_err-ask : goal.returns-in_err-ask
@@ -166,6 +168,7 @@ returns-in_err-ask g c =
     (device_met w c.loop-device.found m c.args.field.now c.resolve.new.field c.loop-device.field d c.loop-device.invariant.so_far (c.in-Ok.ensures.turns c.loop-device.invariant.lit)) in
     record {
       turns = subst E (sym same)
-          (enquires_err (one_round w) m c.args.field.now c.resolve.new.field c.ask.new.field (Sends 1 (c.loop-device.found ++ d ∷ [])) c.slp_req.result c.in_err-ask.field-0.0 met (ap Asks (sym c.slp_req.ensures)) refl
+          (enquires_err (one_round w) m c.args.field.now c.resolve.new.field c.ask.new.field (Sends 1 (c.loop-device.found ++ d ∷ [])) c.slp_req.result c.in_err-ask.field-0.0 met
+          (ap Asks (sym c.slp_req.ensures)) refl
           c.in_err-ask.ensures);
     }

@@ -77,7 +77,8 @@ requests-preserved g c =
     record {
       lit = c.in_ok-heard.ensures.1;
       so_far = subst R (sym became)
-          (reached_turn finding_all m c.args.field.now c.requests.field c.ask.new.field (Runs s) c.in-Some.request c.in_ok-heard.heard c.requests.invariant.so_far (ap asked_for due) c.in_ok-heard.ensures);
+          (reached_turn finding_all m c.args.field.now c.requests.field c.ask.new.field (Runs s) c.in-Some.request c.in_ok-heard.heard c.requests.invariant.so_far (ap asked_for due)
+          c.in_ok-heard.ensures);
     }
 
 pub returns-in_err-hear-clause-turns : goal.returns-in_err-hear-clause-turns

@@ -42,7 +42,8 @@ returns-in-Collided-clause-turns g c lit =
     let n : ℕ = c.loop.counter in
     let h : n < 4 = omega arith in
     let s : Inventory (Unit {0}) = pick_step c.args.id (Tries n false) c.in_ok-answer.field-0 in
-    let picks : pick_ended s ≡ Some (Ok tt) = elim c.in-Collided.is [ inl w ↦ ap (λ x. pick_ended (pick_step c.args.id (Tries n false) x)) w.1 | inr w ↦ ap (λ x. pick_ended (pick_step c.args.id (Tries n false) x)) w ] in
+    let picks : pick_ended s ≡ Some (Ok tt) =
+    elim c.in-Collided.is [ inl w ↦ ap (λ x. pick_ended (pick_step c.args.id (Tries n false) x)) w.1 | inr w ↦ ap (λ x. pick_ended (pick_step c.args.id (Tries n false) x)) w ] in
     enquires_end (picking_f c.args.id) g.L.Listener.machine c.args.field.now c.ask.new.field s (Ok tt)
     (reached_turn (picking_f c.args.id) g.L.Listener.machine c.args.field.now c.loop.field c.ask.new.field (Tries n false) c.request-request.result c.in_ok-answer.field-0 c.loop.invariant.so_far
     (asks_again (Unit {0}) sensf_req c.request-request.result n false h c.request-request.ensures) c.in_ok-answer.ensures)
@@ -61,7 +62,8 @@ loop-preserved g c =
     record {
       lit = c.in_ok-answer.ensures.1;
       so_far = subst R goes turn;
-      vain = vain_turn g.L.Listener.machine sensf_req (picking_f c.args.id) c.args.field.now c.loop.field c.ask.new.field (Tries n false) n false false c.in_ok-answer.field-0 c.loop.invariant.vain c.loop.invariant.so_far
+      vain = vain_turn g.L.Listener.machine sensf_req (picking_f c.args.id) c.args.field.now c.loop.field c.ask.new.field (Tries n false) n false false c.in_ok-answer.field-0 c.loop.invariant.vain
+          c.loop.invariant.so_far
           (subst T c.request-request.ensures c.in_ok-answer.ensures.0) (inl (c.in-Silent.is, refl));
     }
 
@@ -70,7 +72,8 @@ returns-in_err-answer-clause-lost g c =
     let E : Result (Unit {0}) PollFault → Type 0 = λ r. LosesByBreak c.args.field.now r c.ask.new.field in
     let same : c.from_residual.result ≡ Err c.in_err-answer.field-0.0 = grind (arith, common_steps) in
     subst E (sym same)
-    (lost_err g.L.Listener.machine (picking_f c.args.id) c.args.field.now c.loop.field c.ask.new.field (Tries c.loop.counter false) c.request-request.result c.in_err-answer.field-0.0 c.loop.invariant.so_far c.in_err-answer.ensures)
+    (lost_err g.L.Listener.machine (picking_f c.args.id) c.args.field.now c.loop.field c.ask.new.field (Tries c.loop.counter false) c.request-request.result c.in_err-answer.field-0.0
+    c.loop.invariant.so_far c.in_err-answer.ensures)
 
 pub loop-init : goal.loop-init
 loop-init g c = record {
@@ -87,7 +90,8 @@ returns-in-Collided-clause-told g c lit = tells_picked_f c.args.id g.L.Listener.
 
 pub returns-clause-turns : goal.returns-clause-turns
 returns-clause-turns g c lit =
-    enquires_end (picking_f c.args.id) g.L.Listener.machine c.args.field.now c.loop.field (Tries c.loop.counter false) (Err faults.NotFound) c.loop.invariant.so_far (pick_over c.loop.counter false (omega arith))
+    enquires_end (picking_f c.args.id) g.L.Listener.machine c.args.field.now c.loop.field (Tries c.loop.counter false) (Err faults.NotFound) c.loop.invariant.so_far
+    (pick_over c.loop.counter false (omega arith))
 
 pub returns-clause-told : goal.returns-clause-told
 returns-clause-told g c lit = tells_picked_f c.args.id g.L.Listener.machine c.args.field.now c.loop.field _ (returns-clause-turns g c lit)
@@ -106,7 +110,8 @@ returns-in-Whole-clause-cause g c lit s =
       not_found = λ e. inl (others_stand m id f c.args.field.now.listeners (sym c.judge_res.ensures ∙ e)
           (alone_heard m sensf_req (picking_f id) c.args.field.now c.loop.field c.ask.new.field c.loop.counter false c.in_ok-answer.field-0 f c.loop.invariant.vain turn c.in-Whole.is s));
       bad = λ e well. strange_judged id f (sym c.judge_res.ensures ∙ e)
-          (well_heard m sensf_req (picking_f id) is_sensf_res c.args.field.now c.loop.field c.ask.new.field c.loop.counter false c.in_ok-answer.field-0 f c.loop.invariant.vain turn c.in-Whole.is s well);
+          (well_heard m sensf_req (picking_f id) is_sensf_res c.args.field.now c.loop.field c.ask.new.field c.loop.counter false c.in_ok-answer.field-0 f c.loop.invariant.vain turn c.in-Whole.is s
+          well);
     }
 
 pub returns-clause-cause : goal.returns-clause-cause

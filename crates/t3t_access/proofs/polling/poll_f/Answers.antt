@@ -40,7 +40,8 @@ returns-in-Some-clause-turns g c lit =
     enquires_end polling_f g.L.Listener.machine c.args.field.now c.ask.new.field s (Ok _)
     (reached_turn polling_f g.L.Listener.machine c.args.field.now c.loop.field c.ask.new.field (Tries n c.loop.damaged) c.request-request.result c.in_ok-answer.field-0 c.loop.invariant.so_far
     (asks_again Fcrowd sensf_req c.request-request.result n c.loop.damaged h c.request-request.ensures) c.in_ok-answer.ensures)
-    (ap (λ x. presence_ended all_sensed (presence_step all_sensed (Tries n c.loop.damaged) x)) c.in-Whole.is ∙ one_present all_sensed n c.loop.damaged c.in-Whole.answer (One c.in-Some.id) there (ap One c.in-Some.ensures.some))
+    (ap (λ x. presence_ended all_sensed (presence_step all_sensed (Tries n c.loop.damaged) x)) c.in-Whole.is
+    ∙ one_present all_sensed n c.loop.damaged c.in-Whole.answer (One c.in-Some.id) there (ap One c.in-Some.ensures.some))
 
 pub returns-in-None-clause-turns : goal.returns-in-None-clause-turns
 returns-in-None-clause-turns g c lit =
@@ -79,7 +80,8 @@ loop-preserved g c =
     record {
       lit = c.in_ok-answer.ensures.1;
       so_far = subst R goes turn;
-      vain = vain_turn g.L.Listener.machine sensf_req polling_f c.args.field.now c.loop.field c.ask.new.field (Tries n c.loop.damaged) n c.loop.damaged c.match-branch-2.damaged c.in_ok-answer.field-0 c.loop.invariant.vain c.loop.invariant.so_far
+      vain = vain_turn g.L.Listener.machine sensf_req polling_f c.args.field.now c.loop.field c.ask.new.field (Tries n c.loop.damaged) n c.loop.damaged c.match-branch-2.damaged c.in_ok-answer.field-0
+          c.loop.invariant.vain c.loop.invariant.so_far
           (subst T c.request-request.ensures c.in_ok-answer.ensures.0) which;
     }
 
@@ -88,7 +90,8 @@ returns-in_err-answer-clause-lost g c =
     let E : Result Fcrowd PollFault → Type 0 = λ r. LosesByBreak c.args.field.now r c.ask.new.field in
     let same : c.from_residual.result ≡ Err c.in_err-answer.field-0.0 = grind (arith, common_steps) in
     subst E (sym same)
-    (lost_err g.L.Listener.machine polling_f c.args.field.now c.loop.field c.ask.new.field (Tries c.loop.counter c.loop.damaged) c.request-request.result c.in_err-answer.field-0.0 c.loop.invariant.so_far c.in_err-answer.ensures)
+    (lost_err g.L.Listener.machine polling_f c.args.field.now c.loop.field c.ask.new.field (Tries c.loop.counter c.loop.damaged) c.request-request.result c.in_err-answer.field-0.0
+    c.loop.invariant.so_far c.in_err-answer.ensures)
 
 pub loop-init : goal.loop-init
 loop-init g c = record {

@@ -51,11 +51,13 @@ loop-taken-preserved g c =
     let items : c.extend_from_slice.new.self.items ≡ c.loop-taken.known.items ++ c.in-Ok.content.items = search rules in
     let head : take 16 (c.loop-taken.known.items ++ c.in-Ok.content.items) ≡ c.args.block.now =
     take-append-le 16 c.loop-taken.known.items c.in-Ok.content.items (omega (arith, c.loop-taken.invariant.long)) ∙ c.loop-taken.invariant.head in
-    let sum : length c.extend_from_slice.new.self.items ≡ length c.loop-taken.known.items + length c.in-Ok.content.items = ap length items ∙ length-append c.loop-taken.known.items c.in-Ok.content.items in
+    let sum : length c.extend_from_slice.new.self.items ≡ length c.loop-taken.known.items + length c.in-Ok.content.items =
+    ap length items ∙ length-append c.loop-taken.known.items c.in-Ok.content.items in
     let size : length c.in-Ok.content.items ≡ 16 * c.min-count.result = c.in-Ok.ensures.size in
     record {
       reads = λ a r. subst (λ bytes. IsUnder c.args.id a (g.T.TagLink.seen c.check.new.link) c.args.block.now bytes (c.loop-taken.taken + c.min-count.result)) (sym items)
-          (goes_on c.args.id a (g.T.TagLink.seen c.loop-taken.link) (g.T.TagLink.seen c.check.new.link) c.args.block.now c.loop-taken.known.items c.loop-taken.taken c.min-count.result c.in-Ok.content.items
+          (goes_on c.args.id a (g.T.TagLink.seen c.loop-taken.link) (g.T.TagLink.seen c.check.new.link) c.args.block.now c.loop-taken.known.items c.loop-taken.taken c.min-count.result
+          c.in-Ok.content.items
           c.requires.sized c.requires.flag (c.loop-taken.invariant.reads a r) less count head (λ cs h. c.in-Ok.ensures.next a cs (Ok c.in-Ok.content.items) h refl));
       most = omega (arith, count, few, less, c.needed-needed.ensures.needed);
       head = ap (take 16) items ∙ head;

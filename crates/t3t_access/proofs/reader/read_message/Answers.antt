@@ -18,4 +18,5 @@ returns-clause-told g c =
     subst (λ k. Reads c.args.id a (g.T.TagLink.seen c.read_attributes.new.link) k 1 c.in-Ok-to_vec.known.items) (sym view) first in
     let whole : Whole c.args.id a (g.T.TagLink.seen c.read_blocks.new.link) block c.read_blocks.new.known.items =
     subst (λ k. Whole c.args.id a (g.T.TagLink.seen c.read_blocks.new.link) k c.read_blocks.new.known.items) view (c.in-Ok-read_blocks.ensures.told a begun) in
-    holds_of c.args.id a (g.T.TagLink.seen c.read_blocks.new.link) block c.read_blocks.new.known.items _ _ whole (c.in-Ok-read_blocks.ensures.head ∙ view) c.in-Ok.ensures.told.1 flag (search rules) (search rules)
+    holds_of c.args.id a (g.T.TagLink.seen c.read_blocks.new.link) block c.read_blocks.new.known.items _ _ whole (c.in-Ok-read_blocks.ensures.head ∙ view) c.in-Ok.ensures.told.1 flag (search rules)
+    (search rules)

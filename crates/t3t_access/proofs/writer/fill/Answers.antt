@@ -14,7 +14,8 @@ returns-in-Err-clause-told g c a w =
     let less : n < blocks_of message = omega (arith, c.loop-written-test.true) in
     let at : 1 + n ≡ suc n = omega arith in
     let before : Writes c.args.id a (g.T.TagLink.seen c.loop-written.link) block message (suc n) = c.loop-written.invariant.writes a w in
-    does c.args.id a (g.T.TagLink.seen c.loop-written.link) new block message (suc n) (record { block = suc n; content = content_at message n }) (Err c.in-Err.fault) before (omega (arith, less)) (put_fill block message n less)
+    does c.args.id a (g.T.TagLink.seen c.loop-written.link) new block message (suc n) (record { block = suc n; content = content_at message n }) (Err c.in-Err.fault) before (omega (arith, less))
+    (put_fill block message n less)
     (subst (λ k. TellsUpdate c.args.id k (content_at message n) a new asked (Err c.in-Err.fault)) at
     (subst (λ x. TellsUpdate c.args.id (1 + n) x a new asked (Err c.in-Err.fault)) c.content_at-content.ensures (c.in-Err.ensures.next a asked before.answered)))
 
@@ -32,7 +33,8 @@ loop-written-preserved g c =
       writes = λ a w.
           let before : Writes c.args.id a (g.T.TagLink.seen c.loop-written.link) block message (suc n) = c.loop-written.invariant.writes a w in
           subst (λ k. Writes c.args.id a new block message (suc k)) next
-          (does c.args.id a (g.T.TagLink.seen c.loop-written.link) new block message (suc n) (record { block = suc n; content = content_at message n }) (Ok c.in-Ok.field-0) before (omega (arith, less)) (put_fill block message n less)
+          (does c.args.id a (g.T.TagLink.seen c.loop-written.link) new block message (suc n) (record { block = suc n; content = content_at message n }) (Ok c.in-Ok.field-0) before
+          (omega (arith, less)) (put_fill block message n less)
           (subst (λ k. TellsUpdate c.args.id k (content_at message n) a new asked (Ok c.in-Ok.field-0)) at
           (subst (λ x. TellsUpdate c.args.id (1 + n) x a new asked (Ok c.in-Ok.field-0)) c.content_at-content.ensures (c.in-Ok.ensures.next a asked before.answered))));
       most = omega (arith, less);

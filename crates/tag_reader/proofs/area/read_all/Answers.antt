@@ -39,7 +39,8 @@ returns-in_err-ask_next-clause-reads g c =
     subst (λ x. ReadsAll a new c.ask_next.new.known.items x) (sym is_err) (λ size is.
     (let walks = c.area.invariant.walks size is in
     let l = left size a old c.area.known.items space c.area.index is.store walks short in
-    ends_later ToWrite size a old new c.area.known.items c.ask_next.new.known.items c.area.index c.in_err-ask_next.field-0.0 walks.knows (inr l.due) (c.in_err-ask_next.ensures.next size l.tag l.reach)))
+    ends_later ToWrite size a old new c.area.known.items c.ask_next.new.known.items c.area.index c.in_err-ask_next.field-0.0 walks.knows (inr l.due)
+    (c.in_err-ask_next.ensures.next size l.tag l.reach)))
 
 pub area-preserved : goal.area-preserved
 area-preserved g c =
@@ -67,7 +68,11 @@ returns-clause-reads g c size is = record { n = c.area.index; walks = c.area.inv
 pub overflow_add-index : goal.overflow_add-index
 overflow_add-index g c =
     let short : length c.area.known.items < c.in_ok-space.space.end = omega (arith, c.len.ensures, c.area-test.true) in
-    omega (arith, next_number (g.T.TagLink.seen c.args.link.now) (g.T.TagLink.seen c.area.link) c.area.known.items c.in_ok-space.space c.area.index c.area.invariant.looks c.in_ok-space.ensures.area short)
+    omega (
+      arith,
+      next_number (g.T.TagLink.seen c.args.link.now) (g.T.TagLink.seen c.area.link) c.area.known.items c.in_ok-space.space c.area.index c.area.invariant.looks c.in_ok-space.ensures.area
+          short,
+    )
 
 pub ask_next-requires-clause-number : goal.ask_next-requires-clause-number
 ask_next-requires-clause-number g c =
@@ -103,5 +108,6 @@ pub returns-in_err-ask_next-clause-needs : goal.returns-in_err-ask_next-clause-n
 returns-in_err-ask_next-clause-needs g c =
     let short : length c.area.known.items < c.in_ok-space.space.end = omega (arith, c.len.ensures, c.area-test.true) in
     on_err _ c.from_residual-in_err-ask_next.result
-    (looks_needs (g.T.TagLink.seen c.args.link.now) (g.T.TagLink.seen c.area.link) (g.T.TagLink.seen c.ask_next.new.link) c.area.known.items c.in_ok-space.space c.area.index c.area.invariant.looks short
+    (looks_needs (g.T.TagLink.seen c.args.link.now) (g.T.TagLink.seen c.area.link) (g.T.TagLink.seen c.ask_next.new.link) c.area.known.items c.in_ok-space.space c.area.index c.area.invariant.looks
+    short
     c.in_err-ask_next.ensures.cut)

@@ -26,7 +26,8 @@ returns-then-not-goes_on-clause-area g c =
     let new : LinkView = g.T.TagLink.seen c.ask_blocks.new.link in
     let looks : LooksBlocks c.args.id c.area.invariant.looks.0 (g.T.TagLink.seen c.area.link) c.area.known = c.area.invariant.looks.1 in
     let ends : EndsBlocks c.args.id c.area.invariant.looks.0 new looks.ps c.area.known c.ask_blocks.new.known =
-    subst (λ m. SeesBlocks c.args.id c.area.invariant.looks.0 new looks.ps c.area.known c.ask_blocks.new.known (Ok m)) c.if-not-goes_on.true (c.in_ok-goes_on.ensures.sees c.area.invariant.looks.0 looks.ps looks.under looks.known') in
+    subst (λ m. SeesBlocks c.args.id c.area.invariant.looks.0 new looks.ps c.area.known c.ask_blocks.new.known (Ok m)) c.if-not-goes_on.true
+    (c.in_ok-goes_on.ensures.sees c.area.invariant.looks.0 looks.ps looks.under looks.known') in
     let short : length c.area.known.bytes.items < c.args.space.end = omega (arith, c.len.ensures, c.area-test.true) in
     let same : length c.ask_blocks.new.known.bytes.items ≡ length c.area.known.bytes.items = ap (λ k. length k.bytes.items) ends.same in
     let begins = names_begins c.area.known c.args.space c.area.invariant.names in
@@ -41,7 +42,8 @@ returns-then-not-goes_on-clause-reads g c size n a begun =
     let out : HasRunOut ToWrite c.args.id size a new c.area.known c.ask_blocks.new.known (suc r.0) =
     subst (λ m. NextBlocks ToWrite c.args.id size a new c.area.known c.ask_blocks.new.known (suc r.0) (Ok m)) c.if-not-goes_on.true
     (c.in_ok-goes_on.ensures.next ToWrite size (suc r.0) a r.1 (area_due c.args.id size r.0 a old c.area.known c.args.space r.1 c.area.invariant.names short)) in
-    tag_is_known c.args.id size r.0 a old new c.area.known c.ask_blocks.new.known c.args.space c.len-then-not-goes_on.result r.1 c.area.invariant.names short out (omega (arith, c.len-then-not-goes_on.ensures))
+    tag_is_known c.args.id size r.0 a old new c.area.known c.ask_blocks.new.known c.args.space c.len-then-not-goes_on.result r.1 c.area.invariant.names short out
+    (omega (arith, c.len-then-not-goes_on.ensures))
 
 pub area-preserved : goal.area-preserved
 area-preserved g c =
@@ -93,7 +95,8 @@ returns-then-not-goes_on-clause-hears g c a begun =
     let ends : EndsBlocks c.args.id a new l.ps c.area.known c.ask_blocks.new.known =
     subst (λ m. SeesBlocks c.args.id a new l.ps c.area.known c.ask_blocks.new.known (Ok m)) c.if-not-goes_on.true (c.in_ok-goes_on.ensures.sees a l.ps l.under l.known') in
     let short : length c.area.known.bytes.items < c.args.space.end = omega (arith, c.len.ensures, c.area-test.true) in
-    blocks_ended c.args.id a (g.T.TagLink.seen c.area.link) new c.area.known c.ask_blocks.new.known c.args.space c.len-then-not-goes_on.result l c.area.invariant.names ends short (omega (arith, c.len-then-not-goes_on.ensures))
+    blocks_ended c.args.id a (g.T.TagLink.seen c.area.link) new c.area.known c.ask_blocks.new.known c.args.space c.len-then-not-goes_on.result l c.area.invariant.names ends short
+    (omega (arith, c.len-then-not-goes_on.ensures))
 
 pub returns-clause-hears : goal.returns-clause-hears
 returns-clause-hears g c a begun = blocks_all c.args.id a (g.T.TagLink.seen c.area.link) c.area.known c.args.space (c.area.invariant.seen a begun) c.area.invariant.names
@@ -103,4 +106,5 @@ pub returns-in_err-goes_on-clause-needs : goal.returns-in_err-goes_on-clause-nee
 returns-in_err-goes_on-clause-needs g c a begun =
     let short : length c.area.known.bytes.items < c.args.space.end = omega (arith, c.len.ensures, c.area-test.true) in
     on_err _ c.from_residual.result
-    (blocks_needs c.args.id a (g.T.TagLink.seen c.area.link) (g.T.TagLink.seen c.ask_blocks.new.link) c.area.known c.args.space (c.area.invariant.seen a begun) c.area.invariant.names short c.in_err-goes_on.ensures.cut)
+    (blocks_needs c.args.id a (g.T.TagLink.seen c.area.link) (g.T.TagLink.seen c.ask_blocks.new.link) c.area.known c.args.space (c.area.invariant.seen a begun) c.area.invariant.names short
+    c.in_err-goes_on.ensures.cut)

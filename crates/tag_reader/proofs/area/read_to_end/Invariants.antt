@@ -12,7 +12,8 @@ invariant-area g l = record {
   looks : (a : LinkView) × LooksBlocks l.id a (g.T.TagLink.seen l.link) l.known;
   seen : (a : LinkView) → LooksBlocks l.id a (g.T.TagLink.seen l.fn.link) l.fn.known → LooksBlocks l.id a (g.T.TagLink.seen l.link) l.known;
   names : Names l.known l.space;
-  reading : (size n : ℕ) (a : LinkView) → IsReading ToWrite l.id size a (g.T.TagLink.seen l.fn.link) l.fn.known (suc n) → (m : ℕ) × IsReading ToWrite l.id size a (g.T.TagLink.seen l.link) l.known (suc m);
+  reading : (size n : ℕ) (a : LinkView) → IsReading ToWrite l.id size a (g.T.TagLink.seen l.fn.link) l.fn.known (suc n)
+      → (m : ℕ) × IsReading ToWrite l.id size a (g.T.TagLink.seen l.link) l.known (suc m);
   ready : g.T.TagLink.ready l.link;
   same : g.T.TagLink.lenders l.link ≡ g.T.TagLink.lenders l.fn.link;
   moves : g.T.TagLink.moves l.fn.link l.link;

@@ -38,7 +38,8 @@ cut_fault-requires-clause-more g c =
     let space : Space = c.in_ok-space.space in
     let looks : LooksBlocks c.args.id a (g.T.TagLink.seen c.walk.link) c.walk.known = c.walk.invariant.looks in
     let e : c.front.result.now ≡ take space.end c.walk.known.bytes.items = c.front.ensures ∙ ap (λ k. take space.end k) c.as_slice.ensures.value in
-    let short = known_short c.walk.known.bytes.items c.front.result.now space.end e (short_in c.walk.walker space c.front.result.now c.walk.invariant.space (c.needs_more.ensures.short c.walk-test.true)) in
+    let short = known_short c.walk.known.bytes.items c.front.result.now space.end e (short_in c.walk.walker space c.front.result.now c.walk.invariant.space
+    (c.needs_more.ensures.short c.walk-test.true)) in
     let ends : EndsBlocks c.args.id a new looks.ps c.walk.known c.ask_blocks.new.known =
     subst (λ m. SeesBlocks c.args.id a new looks.ps c.walk.known c.ask_blocks.new.known (Ok m)) c.if-not-goes_on.true (c.in_ok-goes_on.ensures.sees a looks.ps looks.under looks.known') in
     let whole : c.front.result.now ≡ c.as_slice-then-not-goes_on.result.now =
@@ -78,7 +79,8 @@ returns-then-not-goes_on-clause-sees g c =
     let space : Space = c.in_ok-space.space in
     let looks : LooksBlocks c.args.id a (g.T.TagLink.seen c.walk.link) c.walk.known = c.walk.invariant.looks in
     let e : c.front.result.now ≡ take space.end c.walk.known.bytes.items = c.front.ensures ∙ ap (λ k. take space.end k) c.as_slice.ensures.value in
-    let short = known_short c.walk.known.bytes.items c.front.result.now space.end e (short_in c.walk.walker space c.front.result.now c.walk.invariant.space (c.needs_more.ensures.short c.walk-test.true)) in
+    let short = known_short c.walk.known.bytes.items c.front.result.now space.end e (short_in c.walk.walker space c.front.result.now c.walk.invariant.space
+    (c.needs_more.ensures.short c.walk-test.true)) in
     let ends : EndsBlocks c.args.id a new looks.ps c.walk.known c.ask_blocks.new.known =
     subst (λ m. SeesBlocks c.args.id a new looks.ps c.walk.known c.ask_blocks.new.known (Ok m)) c.if-not-goes_on.true (c.in_ok-goes_on.ensures.sees a looks.ps looks.under looks.known') in
     cut_here c.args.id a (g.T.TagLink.seen c.walk.link) new looks.ps c.walk.known c.ask_blocks.new.known space c.cut_fault.result looks.under looks.known' c.walk.invariant.names short ends
@@ -119,8 +121,11 @@ walk-preserved g c =
           (let r = c.walk.invariant.reading size is in
           let due = blocks_due c.args.id size r.0 a old c.walk.known space c.front.result.now r.1 c.walk.invariant.names e
           (short_in c.walk.walker space c.front.result.now c.walk.invariant.space (c.needs_more.ensures.short c.walk-test.true))
-          (needs_in c.walk.walker space c.front.result.now c.walk.invariant.space (c.needs_more.ensures.more.0 c.walk-test.true)) in
-          (suc r.0, subst (λ m. NextBlocks ToRead c.args.id size a new c.walk.known c.ask_blocks.new.known (suc r.0) (Ok m)) c.if-not-goes_on.false (c.in_ok-goes_on.ensures.next ToRead size (suc r.0) a r.1 due)));
+          (needs_in c.walk.walker space c.front.result.now c.walk.invariant.space (c.needs_more.ensures.more.0 c.walk-test.true)) in (
+            suc r.0,
+            subst (λ m. NextBlocks ToRead c.args.id size a new c.walk.known c.ask_blocks.new.known (suc r.0) (Ok m)) c.if-not-goes_on.false
+                (c.in_ok-goes_on.ensures.next ToRead size (suc r.0) a r.1 due),
+          ));
       space = c.needs_more.ensures.space ∙ c.walk.invariant.space;
       come = come_further c.needs_more.new.self space.end c.walk.known.bytes.items c.front.result.now gains.piece c.ask_blocks.new.known.bytes.items e grown c.needs_more.ensures.come;
       ready = c.in_ok-goes_on.ensures.ready;
@@ -134,7 +139,8 @@ returns-in-Held-clause-sees g c =
     let space : Space = c.in_ok-space.space in
     let finds = finds_in c.needs_more.new.self space c.front-2.result.now (walk.Held c.in-Held.map) (c.needs_more.ensures.space ∙ c.walk.invariant.space) c.in-Held.ensures.finds in
     let e : c.front-2.result.now ≡ take space.end c.walk.known.bytes.items = c.front-2.ensures ∙ ap (λ k. take space.end k) c.as_slice-2.ensures.value in
-    sees_here c.args.id (g.T.TagLink.seen c.args.link.now) (g.T.TagLink.seen c.walk.link) looks.ps c.walk.known space looks.under looks.known' c.walk.invariant.names c.front-2.result.now c.in-Held.map e
+    sees_here c.args.id (g.T.TagLink.seen c.args.link.now) (g.T.TagLink.seen c.walk.link) looks.ps c.walk.known space looks.under looks.known' c.walk.invariant.names c.front-2.result.now c.in-Held.map
+    e
     (λ more. finds.front more tt) (λ more. finds.settled more tt) finds.places
 
 pub returns-in-Held-clause-reads : goal.returns-in-Held-clause-reads
@@ -153,7 +159,8 @@ returns-in-NoMessageTlv-clause-sees g c =
     let finds = finds_in c.needs_more.new.self space c.front-2.result.now walk.NoMessageTlv (c.needs_more.ensures.space ∙ c.walk.invariant.space) c.in-NoMessageTlv.ensures.finds in
     let e : c.front-2.result.now ≡ take space.end c.walk.known.bytes.items = c.front-2.ensures ∙ ap (λ k. take space.end k) c.as_slice-2.ensures.value in
     lacks_here c.args.id (g.T.TagLink.seen c.args.link.now) (g.T.TagLink.seen c.walk.link) looks.ps c.walk.known space looks.under looks.known' c.walk.invariant.names form.NoMessageTlv
-    (read_form c.args.id (g.T.TagLink.seen c.args.link.now) (g.T.TagLink.seen c.walk.link) looks.ps c.walk.known space looks.under looks.known' c.walk.invariant.names c.front-2.result.now walk.NoMessageTlv e (λ more. finds.settled more tt))
+    (read_form c.args.id (g.T.TagLink.seen c.args.link.now) (g.T.TagLink.seen c.walk.link) looks.ps c.walk.known space looks.under looks.known' c.walk.invariant.names c.front-2.result.now
+    walk.NoMessageTlv e (λ more. finds.settled more tt))
 
 pub returns-in-NoMessageTlv-clause-reads : goal.returns-in-NoMessageTlv-clause-reads
 returns-in-NoMessageTlv-clause-reads g c size is =
@@ -170,7 +177,8 @@ returns-in-BadTlv-clause-sees g c =
     let finds = finds_in c.needs_more.new.self space c.front-2.result.now walk.BadTlv (c.needs_more.ensures.space ∙ c.walk.invariant.space) c.in-BadTlv.ensures.finds in
     let e : c.front-2.result.now ≡ take space.end c.walk.known.bytes.items = c.front-2.ensures ∙ ap (λ k. take space.end k) c.as_slice-2.ensures.value in
     lacks_here c.args.id (g.T.TagLink.seen c.args.link.now) (g.T.TagLink.seen c.walk.link) looks.ps c.walk.known space looks.under looks.known' c.walk.invariant.names form.BadTlv
-    (read_form c.args.id (g.T.TagLink.seen c.args.link.now) (g.T.TagLink.seen c.walk.link) looks.ps c.walk.known space looks.under looks.known' c.walk.invariant.names c.front-2.result.now walk.BadTlv e (λ more. finds.settled more tt))
+    (read_form c.args.id (g.T.TagLink.seen c.args.link.now) (g.T.TagLink.seen c.walk.link) looks.ps c.walk.known space looks.under looks.known' c.walk.invariant.names c.front-2.result.now walk.BadTlv
+    e (λ more. finds.settled more tt))
 
 pub returns-in-BadTlv-clause-reads : goal.returns-in-BadTlv-clause-reads
 returns-in-BadTlv-clause-reads g c size is =

@@ -38,7 +38,8 @@ returns-clause-reads g c size is =
     let opens = c.in_ok-map.ensures.opens ToRead size is in
     let measured = c.in_ok-length.ensures.measures ToRead size a opens in
     let whole = c.in_ok-message.ensures.whole size a c.in_ok-map.map measured (most_is a c.in_ok-map.map c.min.result opens.names c.min.ensures) in
-    is_read size a (g.T.TagLink.seen c.read_message.new.link) c.in_ok-map.map (record { message = c.new.result; site = File c.in_ok-map.map; writable = c.in_ok-map.map.writable }) (rw c.new.ensures whole)
+    is_read size a (g.T.TagLink.seen c.read_message.new.link) c.in_ok-map.map (record { message = c.new.result; site = File c.in_ok-map.map; writable = c.in_ok-map.map.writable })
+    (rw c.new.ensures whole)
     opens.names (omega (arith, measured.length', measured.fits)) refl refl
 
 pub returns-in_err-message-clause-moves : goal.returns-in_err-message-clause-moves
@@ -73,7 +74,8 @@ returns-in_err-map-clause-told g c =
 
 pub returns-in_err-length-clause-told : goal.returns-in_err-length-clause-told
 returns-in_err-length-clause-told g c =
-    let h : IsFaultBy T4 (g.T.TagLink.seen c.args.link.now) (g.T.TagLink.seen c.read_length.new.link) c.in_err-length.field-0.0 = c.in_err-length.ensures.brings (g.T.TagLink.seen c.args.link.now) c.in_ok-map.ensures.brings in
+    let h : IsFaultBy T4 (g.T.TagLink.seen c.args.link.now) (g.T.TagLink.seen c.read_length.new.link) c.in_err-length.field-0.0 =
+    c.in_err-length.ensures.brings (g.T.TagLink.seen c.args.link.now) c.in_ok-map.ensures.brings in
     search rules
 
 pub returns-in_err-message-clause-told : goal.returns-in_err-message-clause-told

@@ -17,7 +17,8 @@ returns-in_err-ask_file-clause-measures g c aim size a o =
 pub returns-in_err-bytes-clause-measures : goal.returns-in_err-bytes-clause-measures
 returns-in_err-bytes-clause-measures g c aim size a o =
     let next = c.in_ok-ask_file.ensures.next aim size 3 a o.under (head_due aim size a.state.store 3 (omega arith) (c.args.map, o.names)) (selected_file a c.args.map o.names) in
-    let h : EndsBy aim size a (g.T.TagLink.seen c.ask_file-2.new.link) c.in_err-bytes.field-0.0 = c.in_err-bytes.ensures.next aim size 4 a next.0 (head_due aim size a.state.store 4 (omega arith) (c.args.map, o.names)) refl in
+    let h : EndsBy aim size a (g.T.TagLink.seen c.ask_file-2.new.link) c.in_err-bytes.field-0.0 =
+    c.in_err-bytes.ensures.next aim size 4 a next.0 (head_due aim size a.state.store 4 (omega arith) (c.args.map, o.names)) refl in
     search rules
 
 pub returns-then-length-map-clause-measures : goal.returns-then-length-map-clause-measures
@@ -48,7 +49,8 @@ overflow_sub-map g c = let r = opened_room c.requires.opened.0 (g.T.TagLink.seen
 
 pub returns-in_err-ask_file-clause-brings : goal.returns-in_err-ask_file-clause-brings
 returns-in_err-ask_file-clause-brings g c a o =
-    let h : IsFaultBy T4 a (g.T.TagLink.seen c.ask_file.new.link) c.in_err-ask_file.field-0.0 = c.in_err-ask_file.ensures.brings a o.ps o.under (selects a (g.T.TagLink.seen c.args.link.now) c.args.map o) in
+    let h : IsFaultBy T4 a (g.T.TagLink.seen c.ask_file.new.link) c.in_err-ask_file.field-0.0 =
+    c.in_err-ask_file.ensures.brings a o.ps o.under (selects a (g.T.TagLink.seen c.args.link.now) c.args.map o) in
     search rules
 
 pub returns-in_err-bytes-clause-brings : goal.returns-in_err-bytes-clause-brings
@@ -63,7 +65,8 @@ returns-then-length-map-clause-brings g c a o =
     let file : List ℕ = c.in_ok-ask_file.field-0.items in
     let first = c.in_ok-ask_file.ensures.brings a o.ps o.under (selects a (g.T.TagLink.seen c.args.link.now) c.args.map o) in
     let next = c.in_ok-bytes.ensures.brings a (o.ps ++ file ∷ []) first (measures a (g.T.TagLink.seen c.args.link.now) c.args.map file o) in
-    file_too_long a (g.T.TagLink.seen c.args.link.now) (g.T.TagLink.seen c.ask_file-2.new.link) c.args.map file c.in_ok-bytes.bytes.items c.as_slice.result.now c.number_of-length.result o next c.as_slice.ensures.value
+    file_too_long a (g.T.TagLink.seen c.args.link.now) (g.T.TagLink.seen c.ask_file-2.new.link) c.args.map file c.in_ok-bytes.bytes.items c.as_slice.result.now c.number_of-length.result o next
+    c.as_slice.ensures.value
     c.number_of-length.ensures c.if-length-map.true
 
 pub returns-clause-brings : goal.returns-clause-brings
@@ -71,7 +74,8 @@ returns-clause-brings g c a o =
     let file : List ℕ = c.in_ok-ask_file.field-0.items in
     let first = c.in_ok-ask_file.ensures.brings a o.ps o.under (selects a (g.T.TagLink.seen c.args.link.now) c.args.map o) in
     let next = c.in_ok-bytes.ensures.brings a (o.ps ++ file ∷ []) first (measures a (g.T.TagLink.seen c.args.link.now) c.args.map file o) in
-    measured a (g.T.TagLink.seen c.args.link.now) (g.T.TagLink.seen c.ask_file-2.new.link) c.args.map file c.in_ok-bytes.bytes.items c.as_slice.result.now c.number_of-length.result o next c.as_slice.ensures.value
+    measured a (g.T.TagLink.seen c.args.link.now) (g.T.TagLink.seen c.ask_file-2.new.link) c.args.map file c.in_ok-bytes.bytes.items c.as_slice.result.now c.number_of-length.result o next
+    c.as_slice.ensures.value
     c.number_of-length.ensures c.if-length-map.false
 
 pub returns-in_err-bytes-clause-moves : goal.returns-in_err-bytes-clause-moves

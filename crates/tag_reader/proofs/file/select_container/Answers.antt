@@ -12,14 +12,16 @@ use Rattle.tag_reader.proofs.file.select_container.Goals as goal
 pub returns-in_err-ask_file-clause-selects : goal.returns-in_err-ask_file-clause-selects
 returns-in_err-ask_file-clause-selects g c aim size is =
     let a : LinkView = g.T.TagLink.seen c.args.link.now in
-    let h : EndsBy aim size a (g.T.TagLink.seen c.ask_file.new.link) c.in_err-ask_file.field-0.0 = c.in_err-ask_file.ensures.next aim size 0 a (begins aim size a is) (head_due aim size a.state.store 0 (omega arith) tt) refl in
+    let h : EndsBy aim size a (g.T.TagLink.seen c.ask_file.new.link) c.in_err-ask_file.field-0.0 =
+    c.in_err-ask_file.ensures.next aim size 0 a (begins aim size a is) (head_due aim size a.state.store 0 (omega arith) tt) refl in
     search rules
 
 pub returns-in_err-ask_file-2-clause-selects : goal.returns-in_err-ask_file-2-clause-selects
 returns-in_err-ask_file-2-clause-selects g c aim size is =
     let a : LinkView = g.T.TagLink.seen c.args.link.now in
     let next = c.in_ok-ask_file.ensures.next aim size 0 a (begins aim size a is) (head_due aim size a.state.store 0 (omega arith) tt) refl in
-    let h : EndsBy aim size a (g.T.TagLink.seen c.ask_file-2.new.link) c.in_err-ask_file-2.field-0.0 = c.in_err-ask_file-2.ensures.next aim size 1 a next.0 (head_due aim size a.state.store 1 (omega arith) tt) refl in
+    let h : EndsBy aim size a (g.T.TagLink.seen c.ask_file-2.new.link) c.in_err-ask_file-2.field-0.0 =
+    c.in_err-ask_file-2.ensures.next aim size 1 a next.0 (head_due aim size a.state.store 1 (omega arith) tt) refl in
     search rules
 
 pub returns-clause-selects : goal.returns-clause-selects

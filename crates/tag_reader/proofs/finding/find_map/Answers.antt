@@ -80,7 +80,8 @@ returns-in_err-ask_next-clause-reads g c =
     subst (λ x. ReadsMap a new c.ask_next.new.known.items x) (sym is_err) (λ size is.
     (let walks = c.walk.invariant.walks size is in
     let due = next size a old c.walk.known.items c.front.result.now space c.walk.index is.store walks e short more in
-    ends_later ToRead size a old new c.walk.known.items c.ask_next.new.known.items c.walk.index c.in_err-ask_next.field-0.0 walks.knows (inr due.due) (c.in_err-ask_next.ensures.next size due.tag due.reach)))
+    ends_later ToRead size a old new c.walk.known.items c.ask_next.new.known.items c.walk.index c.in_err-ask_next.field-0.0 walks.knows (inr due.due)
+    (c.in_err-ask_next.ensures.next size due.tag due.reach)))
 
 pub walk-preserved : goal.walk-preserved
 walk-preserved g c =

@@ -41,7 +41,8 @@ pub returns-in_err-message-clause-reads : goal.returns-in_err-message-clause-rea
 returns-in_err-message-clause-reads g c size is =
     let a : LinkView = g.T.TagLink.seen c.args.link.now in
     let r = c.in_ok-map.ensures.reads size is in
-    subst (λ x. IsRead (T5 c.args.id) size a (g.T.TagLink.seen c.find_in_blocks.new.link) x) (sym (exit_is c.from_residual-in_err-message.result fault.Memory c.from_residual-in_err-message.ensures.1)) (record {
+    subst (λ x. IsRead (T5 c.args.id) size a (g.T.TagLink.seen c.find_in_blocks.new.link) x) (sym (exit_is c.from_residual-in_err-message.result fault.Memory c.from_residual-in_err-message.ensures.1))
+    (record {
       stays = r.stays;
       asked = r.asked;
       whole = λ told. absurd (let clash : false ≡ true = told in cc);

@@ -35,7 +35,8 @@ pub ground_in-requires-clause-blocks : goal.ground_in-requires-clause-blocks
 ground_in-requires-clause-blocks g c =
     let h = c.in_ok-space.ensures.hears in
     let f = four_blocks (g.T.TagLink.seen c.args.link.now) (g.T.TagLink.seen c.read_all.new.link) h.0 c.read_all.new.known.items c.in_ok-space.space c.in_ok-space.ensures.area h.1 in
-    let long : length c.truncate.new.self.items ≡ c.in_ok-space.space.end = ap length c.truncate.ensures.items ∙ length-take-le c.in_ok-space.space.end c.read_all.new.known.items c.in_ok-space.ensures.whole in
+    let long : length c.truncate.new.self.items ≡ c.in_ok-space.space.end = ap length c.truncate.ensures.items
+    ∙ length-take-le c.in_ok-space.space.end c.read_all.new.known.items c.in_ok-space.ensures.whole in
     t2_blocks c.in_ok-space.space c.truncate.new.self.items f (omega (arith, long))
 
 pub returns-in_err-space-clause-told : goal.returns-in_err-space-clause-told
@@ -47,6 +48,7 @@ returns-in_err-space-clause-told g c =
 pub returns-clause-told : goal.returns-clause-told
 returns-clause-told g c =
     let h = c.in_ok-space.ensures.hears in
-    let long : length c.truncate.new.self.items ≡ c.in_ok-space.space.end = ap length c.truncate.ensures.items ∙ length-take-le c.in_ok-space.space.end c.read_all.new.known.items c.in_ok-space.ensures.whole in
+    let long : length c.truncate.new.self.items ≡ c.in_ok-space.space.end = ap length c.truncate.ensures.items
+    ∙ length-take-le c.in_ok-space.space.end c.read_all.new.known.items c.in_ok-space.ensures.whole in
     ground_told T2 (g.T.TagLink.seen c.args.link.now) (g.T.TagLink.seen c.read_all.new.link) h.0 c.read_all.new.known.items c.truncate.new.self.items c.in_ok-space.space 4 h.1
     c.truncate.ensures.items refl (omega (arith, long)) c.ground_in.result c.ground_in.ensures.ground

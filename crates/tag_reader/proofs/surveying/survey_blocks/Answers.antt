@@ -30,7 +30,8 @@ returns-clause-surveys g c size is =
     let new : LinkView = g.T.TagLink.seen c.read_to_end.new.link in
     let begun = c.in_ok-named.ensures.opens ToWrite size is in
     made (T5 c.args.id) size a new c.in_ok-space.space c.read_to_end.new.known.size c.read_to_end.new.known.bytes.items
-    (blocks_grounded c.args.id size c.read_to_end.new.known.size a new c.read_to_end.new.known c.in_ok-space.space (c.in_ok-space.ensures.reads size begun.0 a begun.1) c.in_ok-space.ensures.whole refl)
+    (blocks_grounded c.args.id size c.read_to_end.new.known.size a new c.read_to_end.new.known c.in_ok-space.space (c.in_ok-space.ensures.reads size begun.0 a begun.1) c.in_ok-space.ensures.whole
+    refl)
     c.ground_in.result c.ground_in.ensures.ground
 
 -- whatever the tag does

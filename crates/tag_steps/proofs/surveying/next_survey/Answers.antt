@@ -37,7 +37,8 @@ returns-in-Some-clause-told g c =
     let first : LinkView = first_link (g.G.RealTag.real c.args.tag.now) in
     let behind : LinkView = link_behind (g.G.RealTag.real m.tag.now) m.turns.now m.used m.over m.last in
     let lost : c.in-Err.fault ≡ faults.FieldLost = err_in c.in-Err.fault faults.FieldLost (exactly_over c.args.how first behind ask.FieldLost (Err c.in-Err.fault) c.in-Err.ensures.told.by due.0) in
-    let ending : Result Ground ReadFault → Type 0 = λ r. IsGroundToldBy c.args.how first behind r × IfOk r IsPlacedGround × TellsGround c.args.how first behind r × TellsCause c.args.how first behind r in
+    let ending : Result Ground ReadFault → Type 0 = λ r. IsGroundToldBy c.args.how first behind r × IfOk r IsPlacedGround × TellsGround c.args.how first behind r
+    × TellsCause c.args.how first behind r in
     let ends : ending (Err faults.FieldLost) = subst (λ e. ending (Err e)) lost (c.in-Err.ensures.told, c.in-Err.ensures.places, c.in-Err.ensures.ok, c.in-Err.ensures.err) in
     tells_survey g.G.RealTag.real c.args.tag.now c.args.turns.now m.used m.over m.last c.args.how _ m.tag.now m.turns.now c.in-Err.ensures.moves.0 c.in-Err.ensures.moves.1
     (record {

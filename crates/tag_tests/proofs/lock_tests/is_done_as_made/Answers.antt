@@ -22,12 +22,15 @@ none_locked (T5 id) size n (p ∷ ps) = ap (λ v. v || has_locked (T5 id) size (
 
 pub returns-clause-t2 : goal.returns-clause-t2
 returns-clause-t2 c store message place is takes =
-    c.unlocked_is_done.ensures.done T2 16 (replicate 256 false) _ (plain_state store) message (λ s f st may. refl) (refl, is) (record { place = place; takes = takes; free = λ parts are. none_locked T2 16 256 (all_puts parts) })
+    c.unlocked_is_done.ensures.done T2 16 (replicate 256 false) _ (plain_state store) message (λ s f st may. refl) (refl, is)
+    (record { place = place; takes = takes; free = λ parts are. none_locked T2 16 256 (all_puts parts) })
 
 pub returns-clause-t4 : goal.returns-clause-t4
 returns-clause-t4 c code store message place low is takes =
-    c.unlocked_is_done.ensures.done T4 0 [] _ (plain_state store) message (code, low, λ s f st may. refl) is (record { place = place; takes = takes; free = λ parts are. none_locked T4 0 0 (all_puts parts) })
+    c.unlocked_is_done.ensures.done T4 0 [] _ (plain_state store) message (code, low, λ s f st may. refl) is
+    (record { place = place; takes = takes; free = λ parts are. none_locked T4 0 0 (all_puts parts) })
 
 pub returns-clause-t5 : goal.returns-clause-t5
 returns-clause-t5 c id size store message place named is takes =
-    c.unlocked_is_done.ensures.done (T5 id) size (replicate 16384 false) _ (plain_state store) message (named, false, λ s f st may. refl) is (record { place = place; takes = takes; free = λ parts are. none_locked (T5 id) size 16384 (all_puts parts) })
+    c.unlocked_is_done.ensures.done (T5 id) size (replicate 16384 false) _ (plain_state store) message (named, false, λ s f st may. refl) is
+    (record { place = place; takes = takes; free = λ parts are. none_locked (T5 id) size 16384 (all_puts parts) })

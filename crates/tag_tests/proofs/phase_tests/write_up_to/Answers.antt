@@ -24,4 +24,5 @@ fill-requires-clause-of c =
 pub finish-requires-clause-of : goal.finish-requires-clause-of
 finish-requires-clause-of c =
     let p = c.in-Ok.ensures.told in
-    of_work _ c.in_ok-filled.filled.work (ap how_of (c.in_ok-filled.ensures.kept ∙ c.in_ok-emptied.ensures.kept) ∙ work_kind T2 p.ground _ c.in-Ok.prepared.work p.on) (record { kind = refl; named = tt })
+    of_work _ c.in_ok-filled.filled.work (ap how_of (c.in_ok-filled.ensures.kept ∙ c.in_ok-emptied.ensures.kept) ∙ work_kind T2 p.ground _ c.in-Ok.prepared.work p.on)
+    (record { kind = refl; named = tt })

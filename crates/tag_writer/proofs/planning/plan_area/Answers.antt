@@ -8,7 +8,8 @@ returns-then-not-map-clause-err c size store is k = read_only c.args.how size st
 
 pub returns-then-message-room-clause-err : goal.returns-then-message-room-clause-err
 returns-then-message-room-clause-err c size store is k =
-    too_long c.args.how size store c.args.message.now c.args.known.now c.args.block c.args.map.now c.capacity-room.result k (grind (arith, c.if-not-map.false)) c.capacity-room.ensures.exact (omega (arith, c.if-message-room.true))
+    too_long c.args.how size store c.args.message.now c.args.known.now c.args.block c.args.map.now c.capacity-room.result k (grind (arith, c.if-not-map.false)) c.capacity-room.ensures.exact
+    (omega (arith, c.if-message-room.true))
 
 pub returns-in-Ok-clause-ok : goal.returns-in-Ok-clause-ok
 returns-in-Ok-clause-ok c size store is k =

@@ -9,7 +9,8 @@ returns-in-Ok-clause-ok c size store is k =
 
 pub returns-then-message-from-clause-err : goal.returns-then-message-from-clause-err
 returns-then-message-from-clause-err c size store is k =
-    file_too_long size store c.args.message.now c.args.map c.args.length c.from-then-message-from.result k (grind (arith, c.if-not-map.false)) (omega (arith, c.from-then-message-from.ensures, c.saturating_sub-room.ensures))
+    file_too_long size store c.args.message.now c.args.map c.args.length c.from-then-message-from.result k (grind (arith, c.if-not-map.false))
+    (omega (arith, c.from-then-message-from.ensures, c.saturating_sub-room.ensures))
     (omega (arith, c.if-message-from.true, c.from.ensures, c.from-then-message-from.ensures))
 
 pub returns-then-map-lt-NLEN_SIZE-clause-err : goal.returns-then-map-lt-NLEN_SIZE-clause-err

@@ -173,7 +173,8 @@ returns-in-Ok-File-clause-told g c =
     let b : LinkView = g.T.TagLink.seen c.survey.new.link in
     let s : IsSurveyedBy c.args.how a b (File c.in-Ok-File.map c.in-Ok-File.length) = subst (λ ground. IsSurveyedBy c.args.how a b ground) c.in-Ok-File.field-0-is c.in-Ok-File.ensures.told in
     planned_told c.args.how c.args.message.now a b (File c.in-Ok-File.map c.in-Ok-File.length) c.plan_file.result s
-    (subst (λ h. IfOk c.plan_file.result (λ p. IsWorkOn h (File c.in-Ok-File.map c.in-Ok-File.length) c.args.message.now p.work)) (sym s.ground'.kind) c.plan_file.ensures.on) c.plan_file.ensures.declined
+    (subst (λ h. IfOk c.plan_file.result (λ p. IsWorkOn h (File c.in-Ok-File.map c.in-Ok-File.length) c.args.message.now p.work)) (sym s.ground'.kind) c.plan_file.ensures.on)
+    c.plan_file.ensures.declined
 
 on_told : {A : Type 0} (P : Type 0) (r : Result A WriteFault) → P → OnTold r P
 on_told P (Ok x) p = p

@@ -12,7 +12,8 @@ returns-in-Err-clause-puts g c is =
     inr (
       c.in-Err.fault,
       c.from.ensures,
-      loses a b c.args.command.now c.in-Err.fault c.in-Err.ensures.obeys c.in-Err.ensures.rises c.in-Err.ensures.last c.in-Err.ensures.err c.in-Err.ensures.cause c.in-Err.ensures.ended c.in-Err.ensures.calm
+      loses a b c.args.command.now c.in-Err.fault c.in-Err.ensures.obeys c.in-Err.ensures.rises c.in-Err.ensures.last c.in-Err.ensures.err c.in-Err.ensures.cause c.in-Err.ensures.ended
+          c.in-Err.ensures.calm
           (some_answer c.args.how (a.step a.state c.args.command.now).answer is),
     )
 
@@ -25,10 +26,12 @@ returns-in-Err-clause-told g c =
 
 pub returns-in-Ok-clause-puts : goal.returns-in-Ok-clause-puts
 returns-in-Ok-clause-puts g c is =
-    put_by c.args.how (g.T.TagLink.seen c.args.link.now) (g.T.TagLink.seen c.ask.new.self) c.args.command.now c.in-Ok.answer c.in-Ok.ensures.obeys c.in-Ok.ensures.rises c.in-Ok.ensures.last c.in-Ok.ensures.ok
+    put_by c.args.how (g.T.TagLink.seen c.args.link.now) (g.T.TagLink.seen c.ask.new.self) c.args.command.now c.in-Ok.answer c.in-Ok.ensures.obeys c.in-Ok.ensures.rises c.in-Ok.ensures.last
+    c.in-Ok.ensures.ok
     c.tell.result c.tell.ensures is
 
 pub returns-in-Ok-clause-told : goal.returns-in-Ok-clause-told
 returns-in-Ok-clause-told g c =
-    put_told c.args.how (g.T.TagLink.seen c.args.link.now) (g.T.TagLink.seen c.ask.new.self) c.args.command.now c.in-Ok.answer c.in-Ok.ensures.obeys c.in-Ok.ensures.rises c.in-Ok.ensures.last c.in-Ok.ensures.ok
+    put_told c.args.how (g.T.TagLink.seen c.args.link.now) (g.T.TagLink.seen c.ask.new.self) c.args.command.now c.in-Ok.answer c.in-Ok.ensures.obeys c.in-Ok.ensures.rises c.in-Ok.ensures.last
+    c.in-Ok.ensures.ok
     c.tell.result c.tell.ensures

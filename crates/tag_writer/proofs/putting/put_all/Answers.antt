@@ -34,7 +34,8 @@ returns-in_err-put-clause-err g c j at =
     let b : LinkView = g.T.TagLink.seen c.put.new.link in
     let count : c.count-index-end.result ≡ length (next_at c.args.phase j) = counted_as c.args.phase j c.args.work.now c.count-index-end.result at.work' c.count-index-end.ensures in
     let low : c.loop-index.index < length (next_at c.args.phase j) = subst (λ n. c.loop-index.index < n) count c.loop-index-test.true in
-    let asks : c.command-command.result ≡ signal_at (next_at c.args.phase j) c.loop-index.index = commanded_as c.args.phase j c.args.work.now c.loop-index.index c.command-command.result at.work' c.command-command.ensures in
+    let asks : c.command-command.result ≡ signal_at (next_at c.args.phase j) c.loop-index.index =
+    commanded_as c.args.phase j c.args.work.now c.loop-index.index c.command-command.result at.work' c.command-command.ensures in
     let kind : c.how-how.result ≡ j.how = c.how-how.ensures ∙ sym at.work'.how' in
     let makes = c.loop-index.invariant.makes j at in
     fails j (BreaksOff j.how a (next_at c.args.phase j) b) c.from_residual.result c.in_err-put.field-0.0 (search rules)
@@ -64,7 +65,8 @@ loop-index-preserved g c =
       makes = λ j at.
           (let count : c.count-index-end.result ≡ length (next_at c.args.phase j) = counted_as c.args.phase j c.args.work.now c.count-index-end.result at.work' c.count-index-end.ensures in
           let low : c.loop-index.index < length (next_at c.args.phase j) = subst (λ n. c.loop-index.index < n) count c.loop-index-test.true in
-          let asks : c.command-command.result ≡ signal_at (next_at c.args.phase j) c.loop-index.index = commanded_as c.args.phase j c.args.work.now c.loop-index.index c.command-command.result at.work' c.command-command.ensures in
+          let asks : c.command-command.result ≡ signal_at (next_at c.args.phase j) c.loop-index.index =
+          commanded_as c.args.phase j c.args.work.now c.loop-index.index c.command-command.result at.work' c.command-command.ensures in
           let kind : c.how-how.result ≡ j.how = c.how-how.ensures ∙ sym at.work'.how' in
           let makes = c.loop-index.invariant.makes j at in
           makes_at c.args.phase j a v b c.loop-index.index c.command-command.result c.how-how.result low makes asks kind
@@ -76,7 +78,8 @@ loop-index-preserved g c =
           subst (λ k. AreAcknowledged k v b (command_at (commands_at c.args.phase c.args.work.now) c.loop-index.index ∷ [])) c.how-how.ensures
           (subst (λ f. AreAcknowledged c.how-how.result v b (f ∷ [])) c.command-command.ensures c.in_ok-put.ensures.told) in
           subst (AreAcknowledged (how_of c.args.work.now) a b) (sym h.more)
-          (acknowledged_on (how_of c.args.work.now) a v b (take c.loop-index.index (commands_at c.args.phase c.args.work.now)) (command_at (commands_at c.args.phase c.args.work.now) c.loop-index.index ∷ []) c.loop-index.invariant.told one));
+          (acknowledged_on (how_of c.args.work.now) a v b (take c.loop-index.index (commands_at c.args.phase c.args.work.now))
+          (command_at (commands_at c.args.phase c.args.work.now) c.loop-index.index ∷ []) c.loop-index.invariant.told one));
       rises = rises_on a v b c.loop-index.invariant.rises c.in_ok-put.ensures.rises;
       ready = c.in_ok-put.ensures.ready;
       same = c.in_ok-put.ensures.same ∙ c.loop-index.invariant.same;
@@ -84,10 +87,12 @@ loop-index-preserved g c =
     }
 
 pub returns-in_err-put-clause-rises : goal.returns-in_err-put-clause-rises
-returns-in_err-put-clause-rises g c = rises_on (g.T.TagLink.seen c.args.link.now) (g.T.TagLink.seen c.loop-index.link) (g.T.TagLink.seen c.put.new.link) c.loop-index.invariant.rises c.in_err-put.ensures.rises
+returns-in_err-put-clause-rises g c = rises_on (g.T.TagLink.seen c.args.link.now) (g.T.TagLink.seen c.loop-index.link) (g.T.TagLink.seen c.put.new.link) c.loop-index.invariant.rises
+    c.in_err-put.ensures.rises
 
 pub returns-clause-ok : goal.returns-clause-ok
 returns-clause-ok g c j at =
     let count : c.count-index-end.result ≡ length (next_at c.args.phase j) = counted_as c.args.phase j c.args.work.now c.count-index-end.result at.work' c.count-index-end.ensures in
-    subst (λ ps. Makes j.how (g.T.TagLink.seen c.args.link.now) ps (g.T.TagLink.seen c.loop-index.link)) (take_all c.loop-index.index (next_at c.args.phase j) (omega (arith, count, c.loop-index-test.false)))
+    subst (λ ps. Makes j.how (g.T.TagLink.seen c.args.link.now) ps (g.T.TagLink.seen c.loop-index.link))
+    (take_all c.loop-index.index (next_at c.args.phase j) (omega (arith, count, c.loop-index-test.false)))
     (c.loop-index.invariant.makes j at)

@@ -12,7 +12,8 @@ returns-in-Err-clause-law g c size is =
     let a : LinkView = g.T.TagLink.seen c.args.link.now in
     let b : LinkView = g.T.TagLink.seen c.prepare.new.link in
     let h = c.in-Err.ensures in
-    let s : Stops c.args.how size c.args.message.now a b c.in-Err.fault = unwritten c.args.how size c.args.message.now a b c.in-Err.fault (h.stays size is) (h.asked size is) (h.whole size is) (h.goes_on size is) (h.untaken size is) (h.err size is) in
+    let s : Stops c.args.how size c.args.message.now a b c.in-Err.fault = unwritten c.args.how size c.args.message.now a b c.in-Err.fault (h.stays size is) (h.asked size is) (h.whole size is)
+    (h.goes_on size is) (h.untaken size is) (h.err size is) in
     s.keeps
 
 pub returns-in-Err-clause-whole : goal.returns-in-Err-clause-whole
@@ -20,7 +21,8 @@ returns-in-Err-clause-whole g c size is =
     let a : LinkView = g.T.TagLink.seen c.args.link.now in
     let b : LinkView = g.T.TagLink.seen c.prepare.new.link in
     let h = c.in-Err.ensures in
-    let s : Stops c.args.how size c.args.message.now a b c.in-Err.fault = unwritten c.args.how size c.args.message.now a b c.in-Err.fault (h.stays size is) (h.asked size is) (h.whole size is) (h.goes_on size is) (h.untaken size is) (h.err size is) in
+    let s : Stops c.args.how size c.args.message.now a b c.in-Err.fault = unwritten c.args.how size c.args.message.now a b c.in-Err.fault (h.stays size is) (h.asked size is) (h.whole size is)
+    (h.goes_on size is) (h.untaken size is) (h.err size is) in
     s.whole
 
 pub returns-in-Ok-open-clause-law : goal.returns-in-Ok-open-clause-law
@@ -28,7 +30,8 @@ returns-in-Ok-open-clause-law g c size is =
     let a : LinkView = g.T.TagLink.seen c.args.link.now in
     let b : LinkView = g.T.TagLink.seen c.open.new.link in
     let p = c.in-Ok.ensures.ok size is in
-    let s : Succeeds c.args.how size c.args.message.now a b = succeeds_for p.job c.args.how size c.args.message.now a b p.kind p.sized p.new p.at.serves p.since.store (c.in-Ok-open.ensures.ends.ok p.job a p.at p.since) (c.in-Ok-open.ensures.ends.new p.job p.at) in
+    let s : Succeeds c.args.how size c.args.message.now a b = succeeds_for p.job c.args.how size c.args.message.now a b p.kind p.sized p.new p.at.serves p.since.store
+    (c.in-Ok-open.ensures.ends.ok p.job a p.at p.since) (c.in-Ok-open.ensures.ends.new p.job p.at) in
     s.keeps
 
 pub returns-in-Ok-open-clause-asked : goal.returns-in-Ok-open-clause-asked
@@ -36,7 +39,8 @@ returns-in-Ok-open-clause-asked g c size is =
     let a : LinkView = g.T.TagLink.seen c.args.link.now in
     let b : LinkView = g.T.TagLink.seen c.open.new.link in
     let p = c.in-Ok.ensures.ok size is in
-    let s : Succeeds c.args.how size c.args.message.now a b = succeeds_for p.job c.args.how size c.args.message.now a b p.kind p.sized p.new p.at.serves p.since.store (c.in-Ok-open.ensures.ends.ok p.job a p.at p.since) (c.in-Ok-open.ensures.ends.new p.job p.at) in
+    let s : Succeeds c.args.how size c.args.message.now a b = succeeds_for p.job c.args.how size c.args.message.now a b p.kind p.sized p.new p.at.serves p.since.store
+    (c.in-Ok-open.ensures.ends.ok p.job a p.at p.since) (c.in-Ok-open.ensures.ends.new p.job p.at) in
     s.asked
 
 pub returns-in-Ok-open-clause-whole : goal.returns-in-Ok-open-clause-whole
@@ -44,7 +48,8 @@ returns-in-Ok-open-clause-whole g c size is =
     let a : LinkView = g.T.TagLink.seen c.args.link.now in
     let b : LinkView = g.T.TagLink.seen c.open.new.link in
     let p = c.in-Ok.ensures.ok size is in
-    let s : Succeeds c.args.how size c.args.message.now a b = succeeds_for p.job c.args.how size c.args.message.now a b p.kind p.sized p.new p.at.serves p.since.store (c.in-Ok-open.ensures.ends.ok p.job a p.at p.since) (c.in-Ok-open.ensures.ends.new p.job p.at) in
+    let s : Succeeds c.args.how size c.args.message.now a b = succeeds_for p.job c.args.how size c.args.message.now a b p.kind p.sized p.new p.at.serves p.since.store
+    (c.in-Ok-open.ensures.ends.ok p.job a p.at p.since) (c.in-Ok-open.ensures.ends.new p.job p.at) in
     s.whole
 
 pub returns-in-Ok-open-clause-goes_on : goal.returns-in-Ok-open-clause-goes_on
@@ -52,7 +57,8 @@ returns-in-Ok-open-clause-goes_on g c size is =
     let a : LinkView = g.T.TagLink.seen c.args.link.now in
     let b : LinkView = g.T.TagLink.seen c.open.new.link in
     let p = c.in-Ok.ensures.ok size is in
-    let s : Succeeds c.args.how size c.args.message.now a b = succeeds_for p.job c.args.how size c.args.message.now a b p.kind p.sized p.new p.at.serves p.since.store (c.in-Ok-open.ensures.ends.ok p.job a p.at p.since) (c.in-Ok-open.ensures.ends.new p.job p.at) in
+    let s : Succeeds c.args.how size c.args.message.now a b = succeeds_for p.job c.args.how size c.args.message.now a b p.kind p.sized p.new p.at.serves p.since.store
+    (c.in-Ok-open.ensures.ends.ok p.job a p.at p.since) (c.in-Ok-open.ensures.ends.new p.job p.at) in
     s.goes_on
 
 pub returns-in-Ok-open-clause-ok : goal.returns-in-Ok-open-clause-ok
@@ -60,7 +66,8 @@ returns-in-Ok-open-clause-ok g c size is =
     let a : LinkView = g.T.TagLink.seen c.args.link.now in
     let b : LinkView = g.T.TagLink.seen c.open.new.link in
     let p = c.in-Ok.ensures.ok size is in
-    let s : Succeeds c.args.how size c.args.message.now a b = succeeds_for p.job c.args.how size c.args.message.now a b p.kind p.sized p.new p.at.serves p.since.store (c.in-Ok-open.ensures.ends.ok p.job a p.at p.since) (c.in-Ok-open.ensures.ends.new p.job p.at) in
+    let s : Succeeds c.args.how size c.args.message.now a b = succeeds_for p.job c.args.how size c.args.message.now a b p.kind p.sized p.new p.at.serves p.since.store
+    (c.in-Ok-open.ensures.ends.ok p.job a p.at p.since) (c.in-Ok-open.ensures.ends.new p.job p.at) in
     s.succeeded
 
 pub returns-in-Err-open-clause-law : goal.returns-in-Err-open-clause-law
@@ -68,7 +75,8 @@ returns-in-Err-open-clause-law g c size is =
     let a : LinkView = g.T.TagLink.seen c.args.link.now in
     let b : LinkView = g.T.TagLink.seen c.open.new.link in
     let p = c.in-Ok.ensures.ok size is in
-    let s : Stops c.args.how size c.args.message.now a b c.in-Err-open.stopped.cause = stops_for p.job c.args.how size c.args.message.now a b c.in-Err-open.stopped.cause p.kind p.sized p.new p.at.serves p.since.store (c.in-Err-open.ensures.ends.err p.job a p.at p.since) in
+    let s : Stops c.args.how size c.args.message.now a b c.in-Err-open.stopped.cause = stops_for p.job c.args.how size c.args.message.now a b c.in-Err-open.stopped.cause p.kind p.sized p.new
+    p.at.serves p.since.store (c.in-Err-open.ensures.ends.err p.job a p.at p.since) in
     s.keeps
 
 pub returns-in-Err-open-clause-asked : goal.returns-in-Err-open-clause-asked
@@ -76,7 +84,8 @@ returns-in-Err-open-clause-asked g c size is =
     let a : LinkView = g.T.TagLink.seen c.args.link.now in
     let b : LinkView = g.T.TagLink.seen c.open.new.link in
     let p = c.in-Ok.ensures.ok size is in
-    let s : Stops c.args.how size c.args.message.now a b c.in-Err-open.stopped.cause = stops_for p.job c.args.how size c.args.message.now a b c.in-Err-open.stopped.cause p.kind p.sized p.new p.at.serves p.since.store (c.in-Err-open.ensures.ends.err p.job a p.at p.since) in
+    let s : Stops c.args.how size c.args.message.now a b c.in-Err-open.stopped.cause = stops_for p.job c.args.how size c.args.message.now a b c.in-Err-open.stopped.cause p.kind p.sized p.new
+    p.at.serves p.since.store (c.in-Err-open.ensures.ends.err p.job a p.at p.since) in
     s.asked
 
 pub returns-in-Err-open-clause-whole : goal.returns-in-Err-open-clause-whole
@@ -84,7 +93,8 @@ returns-in-Err-open-clause-whole g c size is =
     let a : LinkView = g.T.TagLink.seen c.args.link.now in
     let b : LinkView = g.T.TagLink.seen c.open.new.link in
     let p = c.in-Ok.ensures.ok size is in
-    let s : Stops c.args.how size c.args.message.now a b c.in-Err-open.stopped.cause = stops_for p.job c.args.how size c.args.message.now a b c.in-Err-open.stopped.cause p.kind p.sized p.new p.at.serves p.since.store (c.in-Err-open.ensures.ends.err p.job a p.at p.since) in
+    let s : Stops c.args.how size c.args.message.now a b c.in-Err-open.stopped.cause = stops_for p.job c.args.how size c.args.message.now a b c.in-Err-open.stopped.cause p.kind p.sized p.new
+    p.at.serves p.since.store (c.in-Err-open.ensures.ends.err p.job a p.at p.since) in
     s.whole
 
 pub returns-in-Err-open-clause-goes_on : goal.returns-in-Err-open-clause-goes_on
@@ -92,7 +102,8 @@ returns-in-Err-open-clause-goes_on g c size is =
     let a : LinkView = g.T.TagLink.seen c.args.link.now in
     let b : LinkView = g.T.TagLink.seen c.open.new.link in
     let p = c.in-Ok.ensures.ok size is in
-    let s : Stops c.args.how size c.args.message.now a b c.in-Err-open.stopped.cause = stops_for p.job c.args.how size c.args.message.now a b c.in-Err-open.stopped.cause p.kind p.sized p.new p.at.serves p.since.store (c.in-Err-open.ensures.ends.err p.job a p.at p.since) in
+    let s : Stops c.args.how size c.args.message.now a b c.in-Err-open.stopped.cause = stops_for p.job c.args.how size c.args.message.now a b c.in-Err-open.stopped.cause p.kind p.sized p.new
+    p.at.serves p.since.store (c.in-Err-open.ensures.ends.err p.job a p.at p.since) in
     s.goes_on
 
 pub returns-in-Err-open-clause-err : goal.returns-in-Err-open-clause-err
@@ -100,7 +111,8 @@ returns-in-Err-open-clause-err g c size is =
     let a : LinkView = g.T.TagLink.seen c.args.link.now in
     let b : LinkView = g.T.TagLink.seen c.open.new.link in
     let p = c.in-Ok.ensures.ok size is in
-    let s : Stops c.args.how size c.args.message.now a b c.in-Err-open.stopped.cause = stops_for p.job c.args.how size c.args.message.now a b c.in-Err-open.stopped.cause p.kind p.sized p.new p.at.serves p.since.store (c.in-Err-open.ensures.ends.err p.job a p.at p.since) in
+    let s : Stops c.args.how size c.args.message.now a b c.in-Err-open.stopped.cause = stops_for p.job c.args.how size c.args.message.now a b c.in-Err-open.stopped.cause p.kind p.sized p.new
+    p.at.serves p.since.store (c.in-Err-open.ensures.ends.err p.job a p.at p.since) in
     s.cause
 
 pub returns-in-Err-open-clause-calm : goal.returns-in-Err-open-clause-calm
@@ -113,7 +125,8 @@ returns-in-Err-clause-few g c size is =
     let a : LinkView = g.T.TagLink.seen c.args.link.now in
     let b : LinkView = g.T.TagLink.seen c.prepare.new.link in
     let h = c.in-Err.ensures in
-    let s : Stops c.args.how size c.args.message.now a b c.in-Err.fault = unwritten c.args.how size c.args.message.now a b c.in-Err.fault (h.stays size is) (h.asked size is) (h.whole size is) (h.goes_on size is) (h.untaken size is) (h.err size is) in
+    let s : Stops c.args.how size c.args.message.now a b c.in-Err.fault = unwritten c.args.how size c.args.message.now a b c.in-Err.fault (h.stays size is) (h.asked size is) (h.whole size is)
+    (h.goes_on size is) (h.untaken size is) (h.err size is) in
     s.few
 
 pub returns-in-Ok-open-clause-few : goal.returns-in-Ok-open-clause-few
@@ -121,7 +134,8 @@ returns-in-Ok-open-clause-few g c size is =
     let a : LinkView = g.T.TagLink.seen c.args.link.now in
     let b : LinkView = g.T.TagLink.seen c.open.new.link in
     let p = c.in-Ok.ensures.ok size is in
-    let s : Succeeds c.args.how size c.args.message.now a b = succeeds_for p.job c.args.how size c.args.message.now a b p.kind p.sized p.new p.at.serves p.since.store (c.in-Ok-open.ensures.ends.ok p.job a p.at p.since) (c.in-Ok-open.ensures.ends.new p.job p.at) in
+    let s : Succeeds c.args.how size c.args.message.now a b = succeeds_for p.job c.args.how size c.args.message.now a b p.kind p.sized p.new p.at.serves p.since.store
+    (c.in-Ok-open.ensures.ends.ok p.job a p.at p.since) (c.in-Ok-open.ensures.ends.new p.job p.at) in
     s.few
 
 pub returns-in-Err-open-clause-few : goal.returns-in-Err-open-clause-few
@@ -129,7 +143,8 @@ returns-in-Err-open-clause-few g c size is =
     let a : LinkView = g.T.TagLink.seen c.args.link.now in
     let b : LinkView = g.T.TagLink.seen c.open.new.link in
     let p = c.in-Ok.ensures.ok size is in
-    let s : Stops c.args.how size c.args.message.now a b c.in-Err-open.stopped.cause = stops_for p.job c.args.how size c.args.message.now a b c.in-Err-open.stopped.cause p.kind p.sized p.new p.at.serves p.since.store (c.in-Err-open.ensures.ends.err p.job a p.at p.since) in
+    let s : Stops c.args.how size c.args.message.now a b c.in-Err-open.stopped.cause = stops_for p.job c.args.how size c.args.message.now a b c.in-Err-open.stopped.cause p.kind p.sized p.new
+    p.at.serves p.since.store (c.in-Err-open.ensures.ends.err p.job a p.at p.since) in
     s.few
 
 -- whatever the tag does

@@ -38,20 +38,25 @@ returns-then-kind-eq-NULL c = (
 
 pub returns-in-Fault : goal.returns-in-Fault
 returns-in-Fault c =
-    next_more (in_ranges c.args.reserved.now) c.args.known.now c.args.at c.args.end c.in-Some.kind_past c.requires.below c.in-Some.ensures.some c.if-kind_past-known.false c.if-kind.false c.if-kind-eq-NULL.false
+    next_more (in_ranges c.args.reserved.now) c.args.known.now c.args.at c.args.end c.in-Some.kind_past c.requires.below c.in-Some.ensures.some c.if-kind_past-known.false c.if-kind.false
+    c.if-kind-eq-NULL.false
     ∙ c.in-Fault.ensures (slice_index c.args.known.now (c.in-Some.kind_past - 1)) (c.in-Some.kind_past - 1)
 
 pub returns-in-Unknown : goal.returns-in-Unknown
 returns-in-Unknown c =
-    next_more (in_ranges c.args.reserved.now) c.args.known.now c.args.at c.args.end c.in-Some.kind_past c.requires.below c.in-Some.ensures.some c.if-kind_past-known.false c.if-kind.false c.if-kind-eq-NULL.false
+    next_more (in_ranges c.args.reserved.now) c.args.known.now c.args.at c.args.end c.in-Some.kind_past c.requires.below c.in-Some.ensures.some c.if-kind_past-known.false c.if-kind.false
+    c.if-kind-eq-NULL.false
     ∙ c.in-Unknown.ensures (slice_index c.args.known.now (c.in-Some.kind_past - 1)) (c.in-Some.kind_past - 1)
 
 pub returns-in-Value : goal.returns-in-Value
 returns-in-Value c =
     let kind : ℕ = slice_index c.args.known.now (c.in-Some.kind_past - 1) in
     let header : ((c.in-Some.kind_past - 1) ∷ free (in_ranges c.args.reserved.now) c.in-Some.kind_past c.in-Value.from) ≡ free (in_ranges c.args.reserved.now) c.args.at c.in-Value.from =
-    ap (λ cells. cells ++ free (in_ranges c.args.reserved.now) c.in-Some.kind_past c.in-Value.from) (sym (one_taken (in_ranges c.args.reserved.now) c.args.at c.args.end c.in-Some.kind_past c.in-Some.ensures.some))
+    ap (λ cells. cells ++ free (in_ranges c.args.reserved.now) c.in-Some.kind_past c.in-Value.from)
+    (sym (one_taken (in_ranges c.args.reserved.now) c.args.at c.args.end c.in-Some.kind_past c.in-Some.ensures.some))
     ∙ sym (free_split (in_ranges c.args.reserved.now) c.args.at c.in-Some.kind_past c.in-Value.from (omega (arith, c.in-Some.ensures.some.above)) (omega (arith, c.in-Value.ensures.above))) in
-    whole (in_ranges c.args.reserved.now) c.args.known.now c.args.at c.args.end c.in-Value.from kind c.in-Value.long c.in-Value.size ((c.in-Some.kind_past - 1) ∷ free (in_ranges c.args.reserved.now) c.in-Some.kind_past c.in-Value.from) c.value_ahead.result
-    (next_more (in_ranges c.args.reserved.now) c.args.known.now c.args.at c.args.end c.in-Some.kind_past c.requires.below c.in-Some.ensures.some c.if-kind_past-known.false c.if-kind.false c.if-kind-eq-NULL.false ∙ c.in-Value.ensures.next' kind (c.in-Some.kind_past - 1))
+    whole (in_ranges c.args.reserved.now) c.args.known.now c.args.at c.args.end c.in-Value.from kind c.in-Value.long c.in-Value.size
+    ((c.in-Some.kind_past - 1) ∷ free (in_ranges c.args.reserved.now) c.in-Some.kind_past c.in-Value.from) c.value_ahead.result
+    (next_more (in_ranges c.args.reserved.now) c.args.known.now c.args.at c.args.end c.in-Some.kind_past c.requires.below c.in-Some.ensures.some c.if-kind_past-known.false c.if-kind.false
+    c.if-kind-eq-NULL.false ∙ c.in-Value.ensures.next' kind (c.in-Some.kind_past - 1))
     c.value_ahead.ensures header (omega (arith, c.in-Some.ensures.some.above, c.in-Value.ensures.above)) c.in-Value.ensures.below c.in-Value.ensures.last

@@ -10,7 +10,11 @@ lines-init c = walks_first c.args.script.now c.args.report.now c.args.bench.now 
 
 pub overflow_add-line : goal.overflow_add-line
 overflow_add-line c =
-    omega (arith, line_small c.args.script.now c.args.report.now c.lines.left.now c.in-Some.rest.now c.in-Some.text.now c.lines.line c.lines.bench c.lines.walk c.requires.script c.lines.invariant c.in-Some.ensures.lines)
+    omega (
+      arith,
+      line_small c.args.script.now c.args.report.now c.lines.left.now c.in-Some.rest.now c.in-Some.text.now c.lines.line c.lines.bench c.lines.walk c.requires.script c.lines.invariant
+          c.in-Some.ensures.lines,
+    )
 
 pub returns-in_err-walk-clause-err : goal.returns-in_err-walk-clause-err
 returns-in_err-walk-clause-err c =

@@ -8,7 +8,8 @@ use Rattle.trace_audit.proofs.reading.read_event.Goals as goal
 
 pub returns-in_err-event : goal.returns-in_err-event
 returns-in_err-event c =
-    subst (λ (r : Option Event). MatchOption r ((e : Event) → IsOf c.args.tech e → c.args.text.now ≢ line_text c.args.line (event_text e)) (λ e. IsOf c.args.tech e × (c.args.text.now ≡ line_text c.args.line (event_text e)))) (sym c.from_residual.ensures)
+    subst (λ (r : Option Event). MatchOption r ((e : Event) → IsOf c.args.tech e → c.args.text.now ≢ line_text c.args.line (event_text e))
+    (λ e. IsOf c.args.tech e × (c.args.text.now ≡ line_text c.args.line (event_text e)))) (sym c.from_residual.ensures)
     (λ e of is. let found = c.in_err-event.ensures.finds e (record { of = of; number = c.args.line; small = c.ranges.line.fits; is = is }) in cc)
 
 pub returns-else-eq : goal.returns-else-eq

@@ -15,21 +15,24 @@ pub overflow_cast-events : goal.overflow_cast-events
 overflow_cast-events c =
     let read : AreRead c.args.line c.args.command.now c.args.walk.left.now c.as_slice-events.result.now c.in-Ok.read.left.now =
     subst (λ (es : List Event). AreRead c.args.line c.args.command.now c.args.walk.left.now es c.in-Ok.read.left.now) (sym c.as_slice-events.ensures.value) c.in-Ok.ensures in
-    let room = room_behind c.args.bench.now c.follow.new.self c.args.line c.args.command.now c.args.walk.left.now c.as_slice-events.result.now c.in-Ok.read.left.now read (length c.as_slice-events.result.now) (omega arith) in
+    let room = room_behind c.args.bench.now c.follow.new.self c.args.line c.args.command.now c.args.walk.left.now c.as_slice-events.result.now c.in-Ok.read.left.now read
+    (length c.as_slice-events.result.now) (omega arith) in
     omega (arith, room, c.requires.room)
 
 pub overflow_add-walk : goal.overflow_add-walk
 overflow_add-walk c =
     let read : AreRead c.args.line c.args.command.now c.args.walk.left.now c.as_slice-events.result.now c.in-Ok.read.left.now =
     subst (λ (es : List Event). AreRead c.args.line c.args.command.now c.args.walk.left.now es c.in-Ok.read.left.now) (sym c.as_slice-events.ensures.value) c.in-Ok.ensures in
-    let room = room_behind c.args.bench.now c.follow.new.self c.args.line c.args.command.now c.args.walk.left.now c.as_slice-events.result.now c.in-Ok.read.left.now read (length c.as_slice-events.result.now) (omega arith) in
+    let room = room_behind c.args.bench.now c.follow.new.self c.args.line c.args.command.now c.args.walk.left.now c.as_slice-events.result.now c.in-Ok.read.left.now read
+    (length c.as_slice-events.result.now) (omega arith) in
     omega (arith, room, c.requires.room)
 
 pub behind_events-requires : goal.behind_events-requires
 behind_events-requires c =
     let read : AreRead c.args.line c.args.command.now c.args.walk.left.now c.as_slice-events.result.now c.in-Ok.read.left.now =
     subst (λ (es : List Event). AreRead c.args.line c.args.command.now c.args.walk.left.now es c.in-Ok.read.left.now) (sym c.as_slice-events.ensures.value) c.in-Ok.ensures in
-    let room = room_behind c.args.bench.now c.follow.new.self c.args.line c.args.command.now c.args.walk.left.now c.as_slice-events.result.now c.in-Ok.read.left.now read (length c.as_slice-events.result.now) (omega arith) in
+    let room = room_behind c.args.bench.now c.follow.new.self c.args.line c.args.command.now c.args.walk.left.now c.as_slice-events.result.now c.in-Ok.read.left.now read
+    (length c.as_slice-events.result.now) (omega arith) in
     omega (arith, room, c.requires.room)
 
 pub returns-in-Whole-clause-ok : goal.returns-in-Whole-clause-ok
@@ -54,7 +57,8 @@ pub returns-in-Whole-clause-room : goal.returns-in-Whole-clause-room
 returns-in-Whole-clause-room c =
     let read : AreRead c.args.line c.args.command.now c.args.walk.left.now c.as_slice-events.result.now c.in-Ok.read.left.now =
     subst (λ (es : List Event). AreRead c.args.line c.args.command.now c.args.walk.left.now es c.in-Ok.read.left.now) (sym c.as_slice-events.ensures.value) c.in-Ok.ensures in
-    room_on c.args.bench.now c.follow.new.self c.args.line c.args.command.now c.args.walk.left.now c.as_slice-events.result.now c.in-Ok.read.left.now read c.in-Some.entry.now c.args.walk.good c.behind_events.result c.behind_events.ensures
+    room_on c.args.bench.now c.follow.new.self c.args.line c.args.command.now c.args.walk.left.now c.as_slice-events.result.now c.in-Ok.read.left.now read c.in-Some.entry.now c.args.walk.good
+    c.behind_events.result c.behind_events.ensures
 
 pub overflow_cast-result : goal.overflow_cast-result
 overflow_cast-result c =
@@ -65,7 +69,8 @@ overflow_cast-result c =
     subst (λ (f : Followed). Follows f c.args.bench.now c.follow.new.self c.args.line c.args.command.now events) c.in-Front.is c.in_ok-follow.ensures.ok in
     let follows : FollowsFront c.args.bench.now c.follow.new.self c.args.line c.args.command.now events c.in-Front.good =
     follows_one (Front c.in-Front.good) c.args.bench.now c.follow.new.self c.args.line c.args.command.now events c.requires.asks told in
-    let room = room_behind c.args.bench.now c.follow.new.self c.args.line c.args.command.now c.args.walk.left.now c.as_slice-events.result.now c.in-Ok.read.left.now read c.in-Front.good follows.within in
+    let room = room_behind c.args.bench.now c.follow.new.self c.args.line c.args.command.now c.args.walk.left.now c.as_slice-events.result.now c.in-Ok.read.left.now read c.in-Front.good
+    follows.within in
     omega (arith, room, c.requires.room)
 
 pub overflow_add-result : goal.overflow_add-result
@@ -77,7 +82,8 @@ overflow_add-result c =
     subst (λ (f : Followed). Follows f c.args.bench.now c.follow.new.self c.args.line c.args.command.now events) c.in-Front.is c.in_ok-follow.ensures.ok in
     let follows : FollowsFront c.args.bench.now c.follow.new.self c.args.line c.args.command.now events c.in-Front.good =
     follows_one (Front c.in-Front.good) c.args.bench.now c.follow.new.self c.args.line c.args.command.now events c.requires.asks told in
-    let room = room_behind c.args.bench.now c.follow.new.self c.args.line c.args.command.now c.args.walk.left.now c.as_slice-events.result.now c.in-Ok.read.left.now read c.in-Front.good follows.within in
+    let room = room_behind c.args.bench.now c.follow.new.self c.args.line c.args.command.now c.args.walk.left.now c.as_slice-events.result.now c.in-Ok.read.left.now read c.in-Front.good
+    follows.within in
     omega (arith, room, c.requires.room)
 
 pub returns-clause-ok : goal.returns-clause-ok
@@ -89,7 +95,12 @@ returns-clause-ok c =
     subst (λ (f : Followed). Follows f c.args.bench.now c.follow.new.self c.args.line c.args.command.now events) c.in-Front.is c.in_ok-follow.ensures.ok in
     let follows : FollowsFront c.args.bench.now c.follow.new.self c.args.line c.args.command.now events c.in-Front.good =
     follows_one (Front c.in-Front.good) c.args.bench.now c.follow.new.self c.args.line c.args.command.now events c.requires.asks told in
-    record { lines = c.in-Front.good; good = refl; step = front_step c.args.bench.now c.follow.new.self c.args.line c.args.command.now c.args.walk.left.now c.as_slice-events.result.now c.in-Ok.read.left.now read c.in-Front.good c.in-Ok.read.left.now follows }
+    record {
+      lines = c.in-Front.good;
+      good = refl;
+      step = front_step c.args.bench.now c.follow.new.self c.args.line c.args.command.now c.args.walk.left.now c.as_slice-events.result.now
+          c.in-Ok.read.left.now read c.in-Front.good c.in-Ok.read.left.now follows;
+    }
 
 pub returns-clause-room : goal.returns-clause-room
 returns-clause-room c =
@@ -100,5 +111,6 @@ returns-clause-room c =
     subst (λ (f : Followed). Follows f c.args.bench.now c.follow.new.self c.args.line c.args.command.now events) c.in-Front.is c.in_ok-follow.ensures.ok in
     let follows : FollowsFront c.args.bench.now c.follow.new.self c.args.line c.args.command.now events c.in-Front.good =
     follows_one (Front c.in-Front.good) c.args.bench.now c.follow.new.self c.args.line c.args.command.now events c.requires.asks told in
-    let room = room_behind c.args.bench.now c.follow.new.self c.args.line c.args.command.now c.args.walk.left.now c.as_slice-events.result.now c.in-Ok.read.left.now read c.in-Front.good follows.within in
+    let room = room_behind c.args.bench.now c.follow.new.self c.args.line c.args.command.now c.args.walk.left.now c.as_slice-events.result.now c.in-Ok.read.left.now read c.in-Front.good
+    follows.within in
     omega (arith, room)

@@ -20,7 +20,8 @@ push-requires c =
     let digits = few_digits c.args.count (omega arith) in
     let front : length c.text_line-line.result.items ≤ 600 = grind (arith, common_steps) in
     let text : length c.try_extend_from_slice.new.self.items ≡ length c.text_line-line.result.items + 4 = grind (arith, common_steps) in
-    let size : length c.push_decimal.new.line.items ≡ length c.try_extend_from_slice.new.self.items + length (decimal c.args.count) = ap length c.push_decimal.ensures ∙ length-append c.try_extend_from_slice.new.self.items (decimal c.args.count) in
+    let size : length c.push_decimal.new.line.items ≡ length c.try_extend_from_slice.new.self.items + length (decimal c.args.count) =
+    ap length c.push_decimal.ensures ∙ length-append c.try_extend_from_slice.new.self.items (decimal c.args.count) in
     (omega arith, omega arith)
 
 pub push_decimal-requires-2 : goal.push_decimal-requires-2
@@ -29,6 +30,7 @@ push_decimal-requires-2 c =
     let more = few_digits c.args.start (omega arith) in
     let front : length c.text_line-line.result.items ≤ 600 = grind (arith, common_steps) in
     let text : length c.try_extend_from_slice.new.self.items ≡ length c.text_line-line.result.items + 4 = grind (arith, common_steps) in
-    let size : length c.push_decimal.new.line.items ≡ length c.try_extend_from_slice.new.self.items + length (decimal c.args.count) = ap length c.push_decimal.ensures ∙ length-append c.try_extend_from_slice.new.self.items (decimal c.args.count) in
+    let size : length c.push_decimal.new.line.items ≡ length c.try_extend_from_slice.new.self.items + length (decimal c.args.count) =
+    ap length c.push_decimal.ensures ∙ length-append c.try_extend_from_slice.new.self.items (decimal c.args.count) in
     let colon : length c.push.new.self.items ≡ length c.push_decimal.new.line.items + 1 = grind (arith, common_steps) in
     omega arith

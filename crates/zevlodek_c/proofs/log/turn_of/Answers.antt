@@ -13,7 +13,8 @@ returns-in_err-answer-clause-none c e t rest s =
 pub returns-in_err-answer-2-clause-none : goal.returns-in_err-answer-2-clause-none
 returns-in_err-answer-2-clause-none c e t rest s =
     let said : c.in_ok-answer.answer.now ≡ t.answer.bytes =
-    said_is c.args.tech t c.args.log.now rest c.in_ok-command.command.now c.in_ok-command.rest.now c.in_ok-answer.answer.now c.in_ok-answer.rest.now s c.in_ok-command.ensures.some.0 c.in_ok-answer.ensures.some.0 in
+    said_is c.args.tech t c.args.log.now rest c.in_ok-command.command.now c.in_ok-command.rest.now c.in_ok-answer.answer.now c.in_ok-answer.rest.now s c.in_ok-command.ensures.some.0
+    c.in_ok-answer.ensures.some.0 in
     let few : length c.in_ok-answer.answer.now ≤ 288 = subst (λ (l : List ℕ). length l ≤ 288) (sym said) s.answer.fits in
     let last : slice_index c.args.log.now 0 ≡ t.answer.tail = ap (λ l. slice_index l 0) s.bytes in
     let right : IsBadTail c.in_ok-answer.answer.now (slice_index c.args.log.now 0) → ⊥ = (λ bad. right_tail t.answer s.answer

@@ -13,7 +13,8 @@ offering s os = record s { table = table_with s.table os }
 -- src/peer.rt:88:13
 pub unreachable-requires : goal.unreachable-requires
 unreachable-requires c =
-    let left : (more : List Offer) × SpellsOffers more c.loop-rest.rest.now × (record c.args.server.now { table = table_with c.args.server.now.table c.requires.0 } ≡ record c.loop-rest.server { table = table_with c.loop-rest.server.table more })
+    let left : (more : List Offer) × SpellsOffers more c.loop-rest.rest.now
+    × (record c.args.server.now { table = table_with c.args.server.now.table c.requires.0 } ≡ record c.loop-rest.server { table = table_with c.loop-rest.server.table more })
     = c.loop-rest.invariant.goes c.requires.0 c.requires.1 in
     none_begins SpellsOffer c.loop-rest.rest.now (c.in_default.ensures.none (search rules)) (search rules) left.0 left.1
 
@@ -22,7 +23,8 @@ pub loop-rest-preserved : goal.loop-rest-preserved
 loop-rest-preserved c = record {
   goes = λ os s.
       let o : Offer = record { key = c.in-Some.key.now; value = c.in-Some.value.now } in
-      let all : (more : List Offer) × SpellsOffers more c.loop-rest.rest.now × (record c.args.server.now { table = table_with c.args.server.now.table os } ≡ record c.loop-rest.server { table = table_with c.loop-rest.server.table more })
+      let all : (more : List Offer) × SpellsOffers more c.loop-rest.rest.now
+      × (record c.args.server.now { table = table_with c.args.server.now.table os } ≡ record c.loop-rest.server { table = table_with c.loop-rest.server.table more })
       = c.loop-rest.invariant.goes os s in
       let left : IsLeft SpellsOffer o c.in-Some.left.now all.0 =
       left_behind SpellsOffer less_offer one_offer o c.loop-rest.rest.now c.in-Some.left.now c.in-Some.ensures.some all.0 all.1 in
@@ -37,7 +39,8 @@ loop-rest-preserved c = record {
 -- src/peer.rt:80:1
 pub returns : goal.returns
 returns c = λ os s.
-    let all : (more : List Offer) × SpellsOffers more c.loop-rest.rest.now × (record c.args.server.now { table = table_with c.args.server.now.table os } ≡ record c.loop-rest.server { table = table_with c.loop-rest.server.table more })
+    let all : (more : List Offer) × SpellsOffers more c.loop-rest.rest.now
+    × (record c.args.server.now { table = table_with c.args.server.now.table os } ≡ record c.loop-rest.server { table = table_with c.loop-rest.server.table more })
     = c.loop-rest.invariant.goes os s in
     let none : all.0 ≡ [] = nothing_left SpellsOffer less_offer c.loop-rest.rest.now (search rules) all.0 all.1 in
     sym (all.2 ∙ ap (λ (xs : List Offer). record c.loop-rest.server { table = table_with c.loop-rest.server.table xs }) none)

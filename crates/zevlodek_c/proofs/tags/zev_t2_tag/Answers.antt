@@ -41,7 +41,8 @@ returns c =
     let held : c.if-view-out.memory ≡ (if nat_le (length c.in-Some.answer.bytes) (length c.args.out.now) then (t2_after m f).store else c.args.memory.now) =
     elim c.if-view-out.branch [
       | then-view-out w ↦ with_room (nat_le (length c.in-Some.answer.bytes) (length c.args.out.now)) c.if-view-out.memory (t2_after m f).store c.args.memory.now
-          (le-leb (length c.in-Some.answer.bytes) (length c.args.out.now) (omega (arith, ap length c.view.ensures.bytes, w.if-view-out.true))) (w.memory-is ∙ (w.copy_from_slice.ensures.after ∙ (w.store.ensures.store ∙ after)))
+          (le-leb (length c.in-Some.answer.bytes) (length c.args.out.now) (omega (arith, ap length c.view.ensures.bytes, w.if-view-out.true)))
+          (w.memory-is ∙ (w.copy_from_slice.ensures.after ∙ (w.store.ensures.store ∙ after)))
       | else-view-out w ↦ without_room (nat_le (length c.in-Some.answer.bytes) (length c.args.out.now)) c.if-view-out.memory (t2_after m f).store c.args.memory.now
           (lt-leb (length c.in-Some.answer.bytes) (length c.args.out.now) (omega (arith, ap length c.view.ensures.bytes, w.if-view-out.false))) w.memory-is
     ] in

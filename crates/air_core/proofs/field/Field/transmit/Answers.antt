@@ -60,12 +60,16 @@ returns-in_default-note_answer-clause-turn g c =
     let told = c.in-Ok.ensures.ok in
     let joins : Single c.hear_all.new.answers.first ≡ joint told.0 = sym (ap (λ j. joined_with j c.hear_all.new.answers.first []) c.in-Alike.is) ∙ told.2 in
     let fate : c.note_answer.result ≡ first_fate (later_fates c.args.self.now.fates) = grind (arith, common_steps) in
-    let is : c.miss-in_default-note_answer.result ≡ settled (Whole c.hear_all.new.answers.first) c.note_answer.result = c.miss-in_default-note_answer.ensures.result (Whole c.hear_all.new.answers.first) in
-    let left : world c.miss-in_default-note_answer.new.self ≡ came_back g.L.Listener.machine (record { lit = true; listeners = c.hear_all.new.listeners }) c.note_answer.result = grind (arith, common_steps) in
+    let is : c.miss-in_default-note_answer.result ≡ settled (Whole c.hear_all.new.answers.first) c.note_answer.result =
+    c.miss-in_default-note_answer.ensures.result (Whole c.hear_all.new.answers.first) in
+    let left : world c.miss-in_default-note_answer.new.self ≡ came_back g.L.Listener.machine (record { lit = true; listeners = c.hear_all.new.listeners }) c.note_answer.result =
+    grind (arith, common_steps) in
     let fates : c.miss-in_default-note_answer.new.self.fates ≡ later_fates (later_fates c.args.self.now.fates) = grind (arith, common_steps) in
-    let trace : c.miss-in_default-note_answer.new.self.trace ≡ (c.args.self.now.trace ++ Request c.args.request.now Pass ∷ []) ++ Answer c.hear_all.new.answers.first c.note_answer.result ∷ [] = grind (arith, common_steps) in
+    let trace : c.miss-in_default-note_answer.new.self.trace ≡ (c.args.self.now.trace ++ Request c.args.request.now Pass ∷ []) ++ Answer c.hear_all.new.answers.first c.note_answer.result ∷ [] =
+    grind (arith, common_steps) in
     transmits_answer g.L.Listener.machine g.A.Answerer.restarts g.A.Answerer.steps g.A.Answerer.stops g.A.Answerer.is_stuck c.args.self.now c.args.request.now c.args.far.now
-    c.deref_mut.result.now c.miss-in_default-note_answer.new.self c.hear_all.new.far told.0 c.hear_all.new.listeners c.miss-in_default-note_answer.result c.hear_all.new.answers.first c.note_answer.result
+    c.deref_mut.result.now c.miss-in_default-note_answer.new.self c.hear_all.new.far told.0 c.hear_all.new.listeners c.miss-in_default-note_answer.result c.hear_all.new.answers.first
+    c.note_answer.result
     lit pass from told.1 joins fate is left fates trace
 
 pub returns-in-Pass-note_clash-clause-turn : goal.returns-in-Pass-note_clash-clause-turn
@@ -98,7 +102,8 @@ returns-in_default-note_clash-clause-turn g c =
     let joins : Clashing clash ≡ joint told.0 = ap C cut ∙ sym (ap (λ j. joined_with j c.hear_all.new.answers.first []) c.in-Differing.is) ∙ told.2 in
     let fate : c.note_clash.result ≡ first_fate (later_fates c.args.self.now.fates) = grind (arith, common_steps) in
     let is : c.miss-in_default-note_clash.result ≡ settled (Collided clash) c.note_clash.result = c.miss-in_default-note_clash.ensures.result (Collided clash) in
-    let left : world c.miss-in_default-note_clash.new.self ≡ came_back g.L.Listener.machine (record { lit = true; listeners = c.hear_all.new.listeners }) c.note_clash.result = grind (arith, common_steps) in
+    let left : world c.miss-in_default-note_clash.new.self ≡ came_back g.L.Listener.machine (record { lit = true; listeners = c.hear_all.new.listeners }) c.note_clash.result =
+    grind (arith, common_steps) in
     let fates : c.miss-in_default-note_clash.new.self.fates ≡ later_fates (later_fates c.args.self.now.fates) = grind (arith, common_steps) in
     let trace : c.miss-in_default-note_clash.new.self.trace ≡ (c.args.self.now.trace ++ Request c.args.request.now Pass ∷ []) ++ Clash clash c.note_clash.result ∷ [] = grind (arith, common_steps) in
     transmits_clash g.L.Listener.machine g.A.Answerer.restarts g.A.Answerer.steps g.A.Answerer.stops g.A.Answerer.is_stuck c.args.self.now c.args.request.now c.args.far.now

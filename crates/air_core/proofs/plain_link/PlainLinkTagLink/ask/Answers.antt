@@ -53,7 +53,8 @@ returns-in-Err-clause-err g c =
 
 pub returns-in-Err-clause-calm : goal.returns-in-Err-clause-calm
 returns-in-Err-clause-calm g c =
-    λ none. err_calm g.L.Listener (laws g) c.args.self.now.field.now c.wait.new.field c.args.self.now.place c.args.self.now.start c.args.self.now.last c.args.self.now.over c.args.command.now c.copy.result
+    λ none. err_calm g.L.Listener (laws g) c.args.self.now.field.now c.wait.new.field c.args.self.now.place c.args.self.now.start c.args.self.now.last c.args.self.now.over c.args.command.now
+    c.copy.result
     (none_here c.args.self.now.over c.in_default.not-Some) c.requires.ready c.requires.fits c.copy.ensures c.in-Err.fault c.in-Err.ensures
 
 pub returns-in-Err-clause-moves : goal.returns-in-Err-clause-moves

@@ -16,7 +16,8 @@ returns-then-takes-clause-ok g c =
     let same : own ≡ u.target = search rules in
     let taken : takes_frame u f ≡ true = sym c.takes.ensures ∙ c.if-takes.true in
     let after : PeerNear = record { target = c.take.new.target; linked = true } in
-    let h : IfOk c.take.result (λ s. Handles g.A.Answerer.restarts g.A.Answerer.steps (target_table own f).state (target_table own f).does c.args.far.now s c.take.new.target c.take.new.far) = search rules in
+    let h : IfOk c.take.result (λ s. Handles g.A.Answerer.restarts g.A.Answerer.steps (target_table own f).state (target_table own f).does c.args.far.now s c.take.new.target c.take.new.far) =
+    search rules in
     IfOk-weaker c.take.result (λ s. Handles g.A.Answerer.restarts g.A.Answerer.steps (target_table own f).state (target_table own f).does c.args.far.now s c.take.new.target c.take.new.far)
     (λ s. UpperStep g.A.Answerer.restarts g.A.Answerer.steps (peer_machine.handed u f) (peer_machine.says u f) (peer_machine.after u f) c.args.far.now s after c.take.new.far)
     (λ s k. taken_step g.A.Answerer.restarts g.A.Answerer.steps u f c.args.far.now s c.take.new.target c.take.new.far taken own same k) h

@@ -5,7 +5,8 @@ use Rattle.bench_script.specs.Slots.{have_own_slots}
 use Rattle.bench_script.specs.declared.command.SlotPut.{SlotPut}
 use Rattle.bench_script.proofs.SlotPuts.{puts_refused}
 use Rattle.bench_script.proofs.script.rows.put_words.Goals as goal
-use Rattle.bench_script.proofs.script.rows.put_words.Goals.{then-as_slice-lt-LEAST_PUTS-via-then-as_slice-lt-LEAST_PUTS, then-as_slice-lt-LEAST_PUTS-via-else-as_slice-lt-LEAST_PUTS+then-not-have_own_slots}
+use Rattle.bench_script.proofs.script.rows.put_words.Goals.{then-as_slice-lt-LEAST_PUTS-via-then-as_slice-lt-LEAST_PUTS}
+use Rattle.bench_script.proofs.script.rows.put_words.Goals.{then-as_slice-lt-LEAST_PUTS-via-else-as_slice-lt-LEAST_PUTS+then-not-have_own_slots}
 
 pub returns-then-as_slice-lt-LEAST_PUTS-clause-refused : goal.returns-then-as_slice-lt-LEAST_PUTS-clause-refused
 returns-then-as_slice-lt-LEAST_PUTS-clause-refused c = λ is.

@@ -3,7 +3,8 @@ use Rattle.std.specs.Prelude.{slice_index_or}
 use Rattle.std.proofs.lemmas.Grind.{common_steps}
 use Rattle.bench_script.proofs.Frames.{cut_by_ends, whole_by_ends}
 use Rattle.bench_script.proofs.script.rows.tail_parts.Goals as goal
-use Rattle.bench_script.proofs.script.rows.tail_parts.Goals.{in_default-via-then-word-lt2, in_default-via-else-word-lt2+then-word-lt49, in_default-via-else-word-lt2+else-word-lt49+then-word-lt56+in_default-1, in_default-via-else-word-lt2+else-word-lt49+else-word-lt56}
+use Rattle.bench_script.proofs.script.rows.tail_parts.Goals.{in_default-via-then-word-lt2, in_default-via-else-word-lt2+then-word-lt49}
+use Rattle.bench_script.proofs.script.rows.tail_parts.Goals.{in_default-via-else-word-lt2+else-word-lt49+then-word-lt56+in_default-1, in_default-via-else-word-lt2+else-word-lt49+else-word-lt56}
 
 pub returns-in-47 : goal.returns-in-47
 returns-in-47 c =

@@ -40,7 +40,8 @@ returns-in-Ok c =
     let before = c.self.invariant c.if-self.false in
     record {
       ok = subst (λ v. Follows f c.args.self.now (seen rs ks k v) c.args.line c.args.command.now c.args.events.now) (sym c.if-self.false)
-          (follows rs m k js ks c.args.line c.args.command.now e c.args.events.now before.0 before.1 c.in-Ok.ensures.shows c.in-Ok.ensures.ok (subst AreOnAir c.as_slice-made.ensures c.see_on_air.ensures) f c.args.self.now sound c.in_default.not-Skip
+          (follows rs m k js ks c.args.line c.args.command.now e c.args.events.now before.0 before.1 c.in-Ok.ensures.shows c.in-Ok.ensures.ok
+          (subst AreOnAir c.as_slice-made.ensures c.see_on_air.ensures) f c.args.self.now sound c.in_default.not-Skip
           (subst (λ es. Compares es c.args.events.now f) c.as_slice-made.ensures c.compared-followed.ensures) (subst (λ xs. Records f xs ks e) c.reserve.ensures.items c.record_followed.ensures));
       refused = λ e. absurd cc;
       cause = λ e. absurd cc;
@@ -59,7 +60,8 @@ returns-in-Err-Memory c =
       ok = tt;
       refused = λ e. absurd cc;
       cause = λ e. absurd cc;
-      memory = λ e. loses c.args.self.now rs m c.make_shown.new.machines c.take_trace.new.self js c.reserve.new.self.items c.args.command.now cut.0 (is ∙ ap (seen rs js m) c.if-self.false) c.reserve.ensures.items
+      memory = λ e. loses c.args.self.now rs m c.make_shown.new.machines c.take_trace.new.self js c.reserve.new.self.items c.args.command.now cut.0 (is ∙ ap (seen rs js m) c.if-self.false)
+          c.reserve.ensures.items
           cut.1 c.take_trace.ensures.left;
       spoiled = λ e. refl;
     }

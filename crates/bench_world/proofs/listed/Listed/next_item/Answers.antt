@@ -8,7 +8,8 @@ use Rattle.bench_world.proofs.listed.Listed.next_item.Goals as goal
 pub returns-in_ok-seen-in-Devices : goal.returns-in_ok-seen-in-Devices
 returns-in_ok-seen-in-Devices c = (
   ap listed_text c.in-Devices.is
-      ∙ bare_listed seen_text c.in-Devices.all.now c.in_ok-seen-in-Devices.rest.now c.in_ok-seen-in-Devices.seen.now c.device.result.items [] c.in_ok-seen-in-Devices.ensures.cases.0 c.device.ensures.value refl,
+      ∙ bare_listed seen_text c.in-Devices.all.now c.in_ok-seen-in-Devices.rest.now c.in_ok-seen-in-Devices.seen.now c.device.result.items [] c.in_ok-seen-in-Devices.ensures.cases.0
+      c.device.ensures.value refl,
   c.device.ensures.some,
 )
 
@@ -22,14 +23,16 @@ returns-in_ok-id-in-Tags c = (
 pub returns-in_ok-heard-in-Heard : goal.returns-in_ok-heard-in-Heard
 returns-in_ok-heard-in-Heard c = (
   ap listed_text c.in-Heard.is
-      ∙ bare_listed heard_text c.in-Heard.all.now c.in_ok-heard-in-Heard.rest.now c.in_ok-heard-in-Heard.heard.now c.what_was_heard.result.items [] c.in_ok-heard-in-Heard.ensures.cases.0 c.what_was_heard.ensures.value refl,
+      ∙ bare_listed heard_text c.in-Heard.all.now c.in_ok-heard-in-Heard.rest.now c.in_ok-heard-in-Heard.heard.now c.what_was_heard.result.items [] c.in_ok-heard-in-Heard.ensures.cases.0
+      c.what_was_heard.ensures.value refl,
   c.what_was_heard.ensures.some,
 )
 
 pub returns-in_ok-done-in-Puts : goal.returns-in_ok-done-in-Puts
 returns-in_ok-done-in-Puts c = (
   ap listed_text c.in-Puts.is
-      ∙ bare_listed slot_done_text c.in-Puts.all.now c.in_ok-done-in-Puts.rest.now c.in_ok-done-in-Puts.done.now c.outcome.result.items [] c.in_ok-done-in-Puts.ensures.cases.0 c.outcome.ensures.value refl,
+      ∙ bare_listed slot_done_text c.in-Puts.all.now c.in_ok-done-in-Puts.rest.now c.in_ok-done-in-Puts.done.now c.outcome.result.items [] c.in_ok-done-in-Puts.ensures.cases.0 c.outcome.ensures.value
+      refl,
   c.outcome.ensures.some,
 )
 

@@ -31,7 +31,8 @@ not_opened-requires c =
     let bytes : c.deref.result.now ≡ own_general c.args.miu = c.deref.ensures.0 ∙ c.general_write-general.ensures.bytes ∙ ap general_bytes c.own_params.ensures in
     let O : List ℕ → Type 0 = λ xs. OpensAny restarts (Answers serving 0) m.air c.in-Some-index_mut.end c.open_link.new.field c.open_link.new.far xs (by_cause c.open_link.result) in
     let asks : O (own_general c.args.miu) = subst O bytes c.open_link.ensures.tells in
-    never_odd m c.args.place c.args.miu c.args.rw c.in-Some.peer c.in-Some-index_mut.end c.open_link.new.field c.open_link.new.far c.open_link.result asks c.in-Err.end c.in-Err.is c.requires.stands.0 c.args.place
+    never_odd m c.args.place c.args.miu c.args.rw c.in-Some.peer c.in-Some-index_mut.end c.open_link.new.field c.open_link.new.far c.open_link.result asks c.in-Err.end c.in-Err.is c.requires.stands.0
+    c.args.place
     (subst (λ (x : Machines). Stands (moment x.air) c.args.place c.requires.stands.0) (sym is) c.requires.stands.1) c.requires.stands.2
 
 pub returns-in-Ok : goal.returns-in-Ok
@@ -60,11 +61,13 @@ returns-in-Ok c = λ peer far numbered there.
     let R : FarEnd → Type 0 = λ x. OpensAt m c.begin.new.self place c.args.miu c.args.rw c.in-Some.peer x c.begin.result in
     let mid : Machines = moved_at m c.open_link.new.field place c.open_link.new.far in
     let start : length c.accepted-start.result.now ≡ length c.in-Some-index_mut.end.service.accepted =
-    ap length c.accepted-start.ensures ∙ ap (λ (x : ServerState). length (messages_of x.accepted)) c.as_service.ensures ∙ length-map c.in-Some-index_mut.end.service.accepted (λ (r : Accepted). r.message) in
+    ap length c.accepted-start.ensures ∙ ap (λ (x : ServerState). length (messages_of x.accepted)) c.as_service.ensures
+    ∙ length-map c.in-Some-index_mut.end.service.accepted (λ (r : Accepted). r.message) in
     let client : c.new_client-client.result.llc ≡ new_client c.args.miu c.args.rw c.in-Ok.told.items =
     ap (λ (x : ClientState). x.llc) c.new_client-client.ensures.new ∙ ap (new_client c.args.miu c.args.rw) c.deref-in-Ok.ensures.0 in
     subst P is (subst Q n (subst R e
-    (opens_ok m place c.args.miu c.args.rw c.in-Some.peer c.in-Some-index_mut.end c.open_link.new.field c.open_link.new.far c.open_link.result asks c.in-Ok.initiator c.in-Ok.told c.in-Ok.is c.begin.result c.begin.new.self
+    (opens_ok m place c.args.miu c.args.rw c.in-Some.peer c.in-Some-index_mut.end c.open_link.new.field c.open_link.new.far c.open_link.result asks c.in-Ok.initiator c.in-Ok.told c.in-Ok.is
+    c.begin.result c.begin.new.self
     (on_ok c.begin.result (c.begin.new.self ≡ machines_at_start mid c.in-Some.peer (length c.accepted-start.result.now) c.in-Ok.initiator c.new_client-client.result.llc)
     (c.begin.new.self ≡ machines_at_start mid c.in-Some.peer (length c.in-Some-index_mut.end.service.accepted) c.in-Ok.initiator (new_client c.args.miu c.args.rw c.in-Ok.told.items))
     (λ b. b ∙ ap (λ k. machines_at_start mid c.in-Some.peer k c.in-Ok.initiator c.new_client-client.result.llc) start
@@ -97,4 +100,5 @@ returns-in-Err c = λ peer far numbered there.
     let Q : ℕ → Type 0 = λ k. OpensAt m mid place c.args.miu c.args.rw k far c.not_opened.result in
     let R : FarEnd → Type 0 = λ x. OpensAt m mid place c.args.miu c.args.rw c.in-Some.peer x c.not_opened.result in
     subst P is (subst Q n (subst R e
-    (opens_err m place c.args.miu c.args.rw c.in-Some.peer c.in-Some-index_mut.end c.open_link.new.field c.open_link.new.far c.open_link.result asks c.in-Err.end c.in-Err.is c.not_opened.result mid c.not_opened.ensures refl)))
+    (opens_err m place c.args.miu c.args.rw c.in-Some.peer c.in-Some-index_mut.end c.open_link.new.field c.open_link.new.far c.open_link.result asks c.in-Err.end c.in-Err.is c.not_opened.result mid
+    c.not_opened.ensures refl)))

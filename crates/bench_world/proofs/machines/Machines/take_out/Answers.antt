@@ -35,7 +35,8 @@ keep_under-requires c =
     number_in (Some p) is below = below p (sym is)
 
 -- what stays of far ends, of which one is set
-rests_under : (number : Option ℕ) (end : Option FarEnd) (os : List (Option FarEnd)) → map (rests peer_ends) (set_under number end os) ≡ set_under number (rests peer_ends end) (map (rests peer_ends) os)
+rests_under : (number : Option ℕ) (end : Option FarEnd) (os : List (Option FarEnd)) → map (rests peer_ends) (set_under number end os)
+    ≡ set_under number (rests peer_ends end) (map (rests peer_ends) os)
 rests_under None end os = refl
 rests_under (Some n) end os = map-set (rests peer_ends) os n end
 

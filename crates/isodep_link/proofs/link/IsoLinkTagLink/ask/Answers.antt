@@ -21,15 +21,18 @@ answers : (g : given.Over) (a b : IsoLink g.row.L.Denot) (command : Signal) (r :
     → ((e : AskFault) → a.over ≡ Some e → (r ≡ Err e) × (seen_link b ≡ seen_link a))
     → Answers g.L.Listener g.L.CardListener.card g.L.CardListener.tag (seen_link a) (seen_link b) command r
 answers g a b command r ready may turns tag ended =
-    all_answers g.L.Listener (laws g) g.L.CardListener.card g.L.CardListener.tag g.met.L.CardListener.holds a.field.now a.place a.start a.told a.reader a.last a.over command ready may (seen_link b) r turns tag ended
+    all_answers g.L.Listener (laws g) g.L.CardListener.card g.L.CardListener.tag g.met.L.CardListener.holds a.field.now a.place a.start a.told a.reader a.last a.over command ready may (seen_link b) r
+    turns tag ended
 
 pub returns-clause-obeys : goal.returns-clause-obeys
 returns-clause-obeys g c =
-    (answers g c.args.self.now c.exchange.new.self c.args.command.now c.exchange.result c.requires.ready c.requires.fits.0 c.exchange.ensures.turns c.exchange.ensures.tag c.exchange.ensures.ended).obeys
+    (answers g c.args.self.now c.exchange.new.self c.args.command.now c.exchange.result c.requires.ready c.requires.fits.0 c.exchange.ensures.turns c.exchange.ensures.tag
+    c.exchange.ensures.ended).obeys
 
 pub returns-clause-rises : goal.returns-clause-rises
 returns-clause-rises g c =
-    (answers g c.args.self.now c.exchange.new.self c.args.command.now c.exchange.result c.requires.ready c.requires.fits.0 c.exchange.ensures.turns c.exchange.ensures.tag c.exchange.ensures.ended).rises
+    (answers g c.args.self.now c.exchange.new.self c.args.command.now c.exchange.result c.requires.ready c.requires.fits.0 c.exchange.ensures.turns c.exchange.ensures.tag
+    c.exchange.ensures.ended).rises
 
 pub returns-clause-ok : goal.returns-clause-ok
 returns-clause-ok g c =
@@ -41,12 +44,15 @@ returns-clause-err g c =
 
 pub returns-clause-calm : goal.returns-clause-calm
 returns-clause-calm g c =
-    λ none lit quiet says. (answers g c.args.self.now c.exchange.new.self c.args.command.now c.exchange.result c.requires.ready c.requires.fits.0 c.exchange.ensures.turns c.exchange.ensures.tag c.exchange.ensures.ended).calm none lit quiet
+    λ none lit quiet says. (answers g c.args.self.now c.exchange.new.self c.args.command.now c.exchange.result c.requires.ready c.requires.fits.0 c.exchange.ensures.turns c.exchange.ensures.tag
+    c.exchange.ensures.ended).calm none lit quiet
 
 pub returns-clause-ready : goal.returns-clause-ready
 returns-clause-ready g c =
-    (answers g c.args.self.now c.exchange.new.self c.args.command.now c.exchange.result c.requires.ready c.requires.fits.0 c.exchange.ensures.turns c.exchange.ensures.tag c.exchange.ensures.ended).ready
+    (answers g c.args.self.now c.exchange.new.self c.args.command.now c.exchange.result c.requires.ready c.requires.fits.0 c.exchange.ensures.turns c.exchange.ensures.tag
+    c.exchange.ensures.ended).ready
 
 pub returns-clause-moves : goal.returns-clause-moves
 returns-clause-moves g c =
-    (answers g c.args.self.now c.exchange.new.self c.args.command.now c.exchange.result c.requires.ready c.requires.fits.0 c.exchange.ensures.turns c.exchange.ensures.tag c.exchange.ensures.ended).moves
+    (answers g c.args.self.now c.exchange.new.self c.args.command.now c.exchange.result c.requires.ready c.requires.fits.0 c.exchange.ensures.turns c.exchange.ensures.tag
+    c.exchange.ensures.ended).moves

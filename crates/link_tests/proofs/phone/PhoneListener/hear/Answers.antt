@@ -15,7 +15,8 @@ returns-else-is_err-clause-ok g c =
     let d : g.A.Answerer.steps c.args.far.now c.in-Deliver.payload.items r c.answer.new.self = search rules in
     let a : c.reply-in-Deliver.result ≡ air_frame (reply_frame c.hear.new.self r) = search rules in
     let b : c.reply-in-Deliver.new.self ≡ replied c.hear.new.self r = search rules in
-    let s = delivers_step g.A.Answerer.restarts g.A.Answerer.steps l.lit l.target c.hear.new.self c.args.frame.now c.in-Deliver.payload r c.args.far.now c.answer.new.self on e d (g.met.A.Answerer.fits c.args.far.now c.in-Deliver.payload.items r c.answer.new.self d) in record {
+    let s = delivers_step g.A.Answerer.restarts g.A.Answerer.steps l.lit l.target c.hear.new.self c.args.frame.now c.in-Deliver.payload r c.args.far.now c.answer.new.self on e d
+    (g.met.A.Answerer.fits c.args.far.now c.in-Deliver.payload.items r c.answer.new.self d) in record {
       reply = Some r;
       far = s.0;
       says = ap Some a ∙ s.1;

@@ -14,6 +14,12 @@ returns c =
     let o : is_outside v c.args.nr ≡ false = ap (λ (s : ConnState). is_outside s c.args.nr) c.self.view_is ∙ c.requires.inside in
     let l : acks v c.args.nr ≤ c.self.inside.given = acks_held v c.self.inside.given us c.args.nr refl c.self.invariant.given o in
     let k : n ≤ c.self.inside.given = subst (λ (x : ℕ). x ≤ c.self.inside.given) (sym m) l in
-    ap (λ (b : Buffer (List ℕ)). record v { window = b.capacity; queue = drop (c.self.inside.given - n) b.items; flight = take (c.self.inside.given - n) b.items; vsa = c.args.nr; acked = (v.acked + n) % count_end }) c.drop_first.ensures
+    ap (λ (b : Buffer (List ℕ)). record v {
+      window = b.capacity;
+      queue = drop (c.self.inside.given - n) b.items;
+      flight = take (c.self.inside.given - n) b.items;
+      vsa = c.args.nr;
+      acked = (v.acked + n) % count_end;
+    }) c.drop_first.ensures
     ∙ acknowledged_is v c.self.inside.given n us c.args.nr refl refl m k
     ∙ ap (λ (s : ConnState). acknowledged s c.args.nr) c.self.view_is

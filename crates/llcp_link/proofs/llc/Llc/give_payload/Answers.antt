@@ -22,7 +22,8 @@ returns-in-Ok-Nothing-clause-ok g c =
     let t : Tried most_inner (gave m old) old c.give_next.new.self Nothing =
     subst (Tried most_inner (gave m old) old c.give_next.new.self) c.in-Ok-Nothing.field-0-is c.in-Ok-Nothing.ensures.next in
     let r : old.readable ≡ true = search rules in
-    on_ok_weaker c.write_one.result (λ b. subst (Gives m c.args.count old c.write_one.new.target.items) (sym t.1) (gives_symm m old c.args.count c.write_one.new.target.items r t.0 b)) c.write_one.ensures.ok
+    on_ok_weaker c.write_one.result (λ b. subst (Gives m c.args.count old c.write_one.new.target.items) (sym t.1) (gives_symm m old c.args.count c.write_one.new.target.items r t.0 b))
+    c.write_one.ensures.ok
 
 pub returns-in-Ok-Nothing-clause-err : goal.returns-in-Ok-Nothing-clause-err
 returns-in-Ok-Nothing-clause-err g c =

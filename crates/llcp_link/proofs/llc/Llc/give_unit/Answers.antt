@@ -13,7 +13,8 @@ returns-in-Ok-Given-clause-next g c =
     let t : Tried c.args.room (informs g.S.Service.serving c.clients.self c.clients.client) c.clients.self c.give_unit_at.new.self (Given c.in-Ok-Given.part) =
     subst (Tried c.args.room (informs g.S.Service.serving c.clients.self c.clients.client) c.clients.self c.give_unit_at.new.self) c.in-Ok-Given.field-0-is c.in-Ok-Given.ensures.next in
     let lt : c.clients.counter < sap_count = search rules in
-    let d : f c.clients.client ≡ Some (record { llc = c.give_unit_at.new.self; part = c.in-Ok-Given.part }) = ap (λ k. informs g.S.Service.serving k c.clients.client) (sym c.clients.invariant.same) ∙ t.0 in
+    let d : f c.clients.client ≡ Some (record { llc = c.give_unit_at.new.self; part = c.in-Ok-Given.part }) =
+    ap (λ k. informs g.S.Service.serving k c.clients.client) (sym c.clients.invariant.same) ∙ t.0 in
     (found_here sap_count c.clients.counter c.clients.client f (first_of_all l.last f) (record { llc = c.give_unit_at.new.self; part = c.in-Ok-Given.part }) lt c.clients.invariant.left d, t.1, t.2)
 
 pub clients-preserved : goal.clients-preserved

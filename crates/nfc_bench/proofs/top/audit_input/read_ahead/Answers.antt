@@ -28,8 +28,10 @@ returns-in-Ok-Mark-clause-ok g c =
     let mid : Option (List ℕ) = g.S.Source.left c.lines.source in
     let left' : Option (List ℕ) = g.S.Source.left c.next_line.new.source in
     let goes : GoesTo c.lines.reader c.next_line.new.reader mid left' Mark =
-    subst (λ n. GoesTo c.lines.reader c.next_line.new.reader mid left' n) c.in-Ok-Mark.field-0-is c.in-Ok-Mark.ensures.ok in
-    (comes_to_mark (g.S.Source.left c.args.source.now) mid left' c.lines.reader c.next_line.new.reader c.lines.script.items c.lines.count c.lines.invariant.gathered goes.0 goes.1, c.lines.invariant.few)
+    subst (λ n. GoesTo c.lines.reader c.next_line.new.reader mid left' n) c.in-Ok-Mark.field-0-is c.in-Ok-Mark.ensures.ok in (
+      comes_to_mark (g.S.Source.left c.args.source.now) mid left' c.lines.reader c.next_line.new.reader c.lines.script.items c.lines.count c.lines.invariant.gathered goes.0 goes.1,
+      c.lines.invariant.few,
+    )
 
 pub returns-in-Ok-Nothing-clause-ok : goal.returns-in-Ok-Nothing-clause-ok
 returns-in-Ok-Nothing-clause-ok g c =
@@ -46,8 +48,10 @@ returns-in-Ok-Line-next_line-clause-ok g c =
     let mid : Option (List ℕ) = g.S.Source.left c.lines.source in
     let left' : Option (List ℕ) = g.S.Source.left c.next_line-2.new.source in
     let goes : GoesTo c.lines.reader c.next_line-2.new.reader mid left' Line =
-    subst (λ n. GoesTo c.lines.reader c.next_line-2.new.reader mid left' n) c.in-Ok-Line-next_line.field-0-is c.in-Ok-Line-next_line.ensures.ok in
-    (none_too_many left mid left' c.lines.reader c.next_line-2.new.reader c.lines.script.items c.lines.count c.lines.invariant.gathered (omega (arith, c.lines-test.false)) goes.0 goes.1, c.lines.invariant.few)
+    subst (λ n. GoesTo c.lines.reader c.next_line-2.new.reader mid left' n) c.in-Ok-Line-next_line.field-0-is c.in-Ok-Line-next_line.ensures.ok in (
+      none_too_many left mid left' c.lines.reader c.next_line-2.new.reader c.lines.script.items c.lines.count c.lines.invariant.gathered (omega (arith, c.lines-test.false)) goes.0 goes.1,
+      c.lines.invariant.few,
+    )
 
 pub returns-in-Ok-Mark-next_line-clause-ok : goal.returns-in-Ok-Mark-next_line-clause-ok
 returns-in-Ok-Mark-next_line-clause-ok g c =
@@ -89,20 +93,24 @@ returns-in_default-clause-bound g c =
 
 pub returns-in-Ok-Line-next_line-clause-bound : goal.returns-in-Ok-Line-next_line-clause-bound
 returns-in-Ok-Line-next_line-clause-bound g c =
-    ahead_bound (g.S.Source.left c.args.source.now) (g.S.Source.left c.lines.source) (g.S.Source.left c.next_line-2.new.source) c.lines.reader c.next_line-2.new.reader c.lines.script.items c.lines.count
+    ahead_bound (g.S.Source.left c.args.source.now) (g.S.Source.left c.lines.source) (g.S.Source.left c.next_line-2.new.source) c.lines.reader c.next_line-2.new.reader c.lines.script.items
+    c.lines.count
     c.lines.invariant.gathered c.in-Ok-Line-next_line.ensures.went
 
 pub returns-in-Ok-Mark-next_line-clause-bound : goal.returns-in-Ok-Mark-next_line-clause-bound
 returns-in-Ok-Mark-next_line-clause-bound g c =
-    ahead_bound (g.S.Source.left c.args.source.now) (g.S.Source.left c.lines.source) (g.S.Source.left c.next_line-2.new.source) c.lines.reader c.next_line-2.new.reader c.lines.script.items c.lines.count
+    ahead_bound (g.S.Source.left c.args.source.now) (g.S.Source.left c.lines.source) (g.S.Source.left c.next_line-2.new.source) c.lines.reader c.next_line-2.new.reader c.lines.script.items
+    c.lines.count
     c.lines.invariant.gathered c.in-Ok-Mark-next_line.ensures.went
 
 pub returns-in-Ok-Nothing-next_line-clause-bound : goal.returns-in-Ok-Nothing-next_line-clause-bound
 returns-in-Ok-Nothing-next_line-clause-bound g c =
-    ahead_bound (g.S.Source.left c.args.source.now) (g.S.Source.left c.lines.source) (g.S.Source.left c.next_line-2.new.source) c.lines.reader c.next_line-2.new.reader c.lines.script.items c.lines.count
+    ahead_bound (g.S.Source.left c.args.source.now) (g.S.Source.left c.lines.source) (g.S.Source.left c.next_line-2.new.source) c.lines.reader c.next_line-2.new.reader c.lines.script.items
+    c.lines.count
     c.lines.invariant.gathered c.in-Ok-Nothing-next_line.ensures.went
 
 pub returns-in-Err-next_line-clause-bound : goal.returns-in-Err-next_line-clause-bound
 returns-in-Err-next_line-clause-bound g c =
-    ahead_bound (g.S.Source.left c.args.source.now) (g.S.Source.left c.lines.source) (g.S.Source.left c.next_line-2.new.source) c.lines.reader c.next_line-2.new.reader c.lines.script.items c.lines.count
+    ahead_bound (g.S.Source.left c.args.source.now) (g.S.Source.left c.lines.source) (g.S.Source.left c.next_line-2.new.source) c.lines.reader c.next_line-2.new.reader c.lines.script.items
+    c.lines.count
     c.lines.invariant.gathered c.in-Err-next_line.ensures.went

@@ -88,7 +88,8 @@ returns-in-Err-clause-err g c =
     let next : GaveNext left left' p.done m = gave_next left mid left' c.lines.reader m p.done p.reads (room p.done c.lines.line few p.number) adv in
     let L : List ℕ → Type 0 = λ l. LineStops c.args.quiet c.lines.bench c.obey_line.new.bench c.lines.line l t1 t2 w1 w2 c.in-Err.stop in
     let stops : L m.line = subst L c.line.ensures c.in-Err.ensures.err in
-    line_stops c.args.quiet left left' p.done m c.lines.bench c.obey_line.new.bench c.lines.line t t1 t2 (g.S.Source.faults c.args.source.now) (g.S.Source.faults c.advance.new.source) w w1 w2 c.in-Err.stop
+    line_stops c.args.quiet left left' p.done m c.lines.bench c.obey_line.new.bench c.lines.line t t1 t2 (g.S.Source.faults c.args.source.now) (g.S.Source.faults c.advance.new.source) w w1 w2
+    c.in-Err.stop
     p.obeyed p.reads.limits p.number p.written next few (omega (arith, c.lines.invariant.writes)) stops
 
 pub returns-in-Err-clause-sound : goal.returns-in-Err-clause-sound
@@ -139,7 +140,8 @@ returns-in-Ok-true-follows-clause-err g c =
     let mid : Option (List ℕ) = g.S.Source.left c.lines.source in
     let left' : Option (List ℕ) = g.S.Source.left c.follows.new.source in
     let is : c.in-Ok-true-follows.field-0 ≡ true = cc in
-    let look : Looks c.lines.reader c.follows.new.self mid left' (Ok true) = subst (λ b. Looks c.lines.reader c.follows.new.self mid left' (Ok b)) is (c.in-Ok-true-follows.ensures.look c.lines.invariant.going) in
+    let look : Looks c.lines.reader c.follows.new.self mid left' (Ok true) = subst (λ b. Looks c.lines.reader c.follows.new.self mid left' (Ok b)) is
+    (c.in-Ok-true-follows.ensures.look c.lines.invariant.going) in
     let p = c.lines.invariant.progress in
     let number : c.lines.line ≡ 1 + length p.done = p.number in
     refused_by_size c.args.quiet left mid c.lines.reader c.lines.bench c.lines.line (g.K.Sink.taken c.args.sink.now) (g.K.Sink.taken c.lines.sink) p

@@ -6,7 +6,8 @@ use Rattle.nfc_bench.proofs.top.program.program.Goals as goal
 
 pub returns-in-Ok-clause-ran : goal.returns-in-Ok-clause-ran
 returns-in-Ok-clause-ran g c =
-    let of : Benched → List (List ℕ) → Type 0 = λ b ws. Ran ws (sees g.S.Source g.K.Sink c.args.source.now c.args.sink.now b) (sees g.S.Source g.K.Sink c.run_bench.new.source c.run_bench.new.sink c.run_bench.new.bench) c.run_bench.result in
+    let of : Benched → List (List ℕ) → Type 0 = λ b ws. Ran ws (sees g.S.Source g.K.Sink c.args.source.now c.args.sink.now b)
+    (sees g.S.Source g.K.Sink c.run_bench.new.source c.run_bench.new.sink c.run_bench.new.bench) c.run_bench.result in
     let it : of c.new-bench.result (map string_bytes c.deref.result.now) = c.run_bench.ensures.ran in
     let here : of new_bench (map string_bytes c.deref.result.now) = subst (λ b. of b (map string_bytes c.deref.result.now)) c.new-bench.ensures it in
     rw c.in-Ok.is (c.run_bench.new.bench, subst (λ ws. of new_bench (map string_bytes ws)) c.deref.ensures.value here)

@@ -22,7 +22,8 @@ on_err (Err e) p = p
 pub returns-clause-swept : goal.returns-clause-swept
 returns-clause-swept c =
     on_ok c.found_in.result
-    (swept_all c.args.script c.args.count c.args.bench.now c.again.new.self c.break_each.new.bench c.in_ok-lines.lines c.requires.begins c.in_ok-lines.ensures.ok c.in_ok-again.ensures.ok c.in_ok-break_each.ensures.ok)
+    (swept_all c.args.script c.args.count c.args.bench.now c.again.new.self c.break_each.new.bench c.in_ok-lines.lines c.requires.begins c.in_ok-lines.ensures.ok c.in_ok-again.ensures.ok
+    c.in_ok-break_each.ensures.ok)
 
 pub break_each-requires-clause-taken : goal.break_each-requires-clause-taken
 break_each-requires-clause-taken c =
@@ -38,7 +39,8 @@ pub returns-clause-err : goal.returns-clause-err
 returns-clause-err c =
     on_err c.found_in.result
     (inr (all_some c.args.script.lines c.break_each.new.bench
-    (swept_all c.args.script c.args.count c.args.bench.now c.again.new.self c.break_each.new.bench c.in_ok-lines.lines c.requires.begins c.in_ok-lines.ensures.ok c.in_ok-again.ensures.ok c.in_ok-break_each.ensures.ok)))
+    (swept_all c.args.script c.args.count c.args.bench.now c.again.new.self c.break_each.new.bench c.in_ok-lines.lines c.requires.begins c.in_ok-lines.ensures.ok c.in_ok-again.ensures.ok
+    c.in_ok-break_each.ensures.ok)))
 
 pub returns-in_err-again-clause-err : goal.returns-in_err-again-clause-err
 returns-in_err-again-clause-err c =
@@ -50,4 +52,5 @@ returns-in_err-again-clause-err c =
 pub returns-in_err-break_each-clause-err : goal.returns-in_err-break_each-clause-err
 returns-in_err-break_each-clause-err c =
     on_err c.from_residual-in_err-break_each.result
-    (inr (swept_some c.args.script c.args.count c.args.bench.now c.again.new.self c.break_each.new.bench c.in_ok-lines.lines c.requires.begins c.in_ok-lines.ensures.ok c.in_ok-again.ensures.ok c.in_err-break_each.ensures.err))
+    (inr (swept_some c.args.script c.args.count c.args.bench.now c.again.new.self c.break_each.new.bench c.in_ok-lines.lines c.requires.begins c.in_ok-lines.ensures.ok c.in_ok-again.ensures.ok
+    c.in_err-break_each.ensures.err))

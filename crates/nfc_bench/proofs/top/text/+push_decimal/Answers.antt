@@ -15,7 +15,8 @@ push_decimal-requires t c =
 pub push-requires-else-number-lt10 : goal.push-requires-else-number-lt10
 push-requires-else-number-lt10 t c =
     let longer : length (decimal c.args.number) ≡ length (decimal (c.args.number / 10)) + 1 = one_longer c.args.number c.if-number-lt10.false (omega arith) in
-    let size : length c.push_decimal.new.line.items ≡ length c.args.line.now.items + length (decimal (c.args.number / 10)) = ap length c.push_decimal.ensures ∙ length-append c.args.line.now.items (decimal (c.args.number / 10)) in
+    let size : length c.push_decimal.new.line.items ≡ length c.args.line.now.items + length (decimal (c.args.number / 10)) =
+    ap length c.push_decimal.ensures ∙ length-append c.args.line.now.items (decimal (c.args.number / 10)) in
     (omega arith, omega (arith, c.requires))
 
 pub returns-else-number-lt10 : goal.returns-else-number-lt10

@@ -20,7 +20,8 @@ events-preserved g c =
     let line : List ℕ = text (get_or es i c.event-item.result) in
     let rest : List ℕ = events_text n (drop (i + 1) es) in
     let is : c.push_event_line.new.text.items ≡ held ++ line = c.push_event_line.ensures ∙ ap (λ e. held ++ text e) c.event-item.is in
-    let so : IsWritten whole (held ++ events_text n (drop i es)) t t2 = room_written whole c.events.held.items (events_text n (drop i es)) held t t1 t2 c.events.invariant.written c.in_ok-make_room.ensures.ok in
+    let so : IsWritten whole (held ++ events_text n (drop i es)) t t2 = room_written whole c.events.held.items (events_text n (drop i es)) held t t1 t2 c.events.invariant.written
+    c.in_ok-make_room.ensures.ok in
     record {
       written = line_held whole held line rest c.push_event_line.new.text.items t t2 (subst (λ x. IsWritten whole (held ++ x) t t2) (event_next n i es c.event-item.result (omega arith)) so) is;
       still = c.in_ok-make_room.ensures.still ∙ c.events.invariant.still;

@@ -23,7 +23,8 @@ returns-clause-ok g c =
       got = take n buf;
       size = length-take-le n buf fits;
       few = omega (arith, asked, few.0, c.in_ok-n.ensures.bound);
-      parts = filled room buf (post_of (j - i) (j - i + most - (j - i)) room) _ (j - i) n _ (omega (arith, whole)) fits (omega (arith, asked, few.1, whole, c.deref_mut.ensures.len, c.in_ok-n.ensures.bound)) ∙ ap (λ x. x ++ take n buf) before;
+      parts = filled room buf (post_of (j - i) (j - i + most - (j - i)) room) _ (j - i) n _ (omega (arith, whole)) fits
+          (omega (arith, asked, few.1, whole, c.deref_mut.ensures.len, c.in_ok-n.ensures.bound)) ∙ ap (λ x. x ++ take n buf) before;
       read = c.in_ok-n.ensures.ok;
       end = end_at_none (g.S.Source.left c.args.source.now) (g.S.Source.left c.read.new.self) buf n c.in_ok-n.ensures.ok
           (λ none. c.in_ok-n.ensures.end none (omega (arith, asked, some)));

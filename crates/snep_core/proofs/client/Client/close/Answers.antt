@@ -24,7 +24,8 @@ pub returns-in-Err-clause-err : goal.returns-in-Err-clause-err
 returns-in-Err-clause-err g c =
     let l = c.args.self.now.llc in
     let some : some_open l client_saps ≡ true = search rules in
-    λ going. close_rests g.C.Carrier.seen g.C.Carrier.swaps g.A.Answerer.steps g.A.Answerer.stops c.args.counts client_saps l some c.args.carrier.now c.args.far.now c.in-Err.fault c.leave_all.new.self.llc
+    λ going. close_rests g.C.Carrier.seen g.C.Carrier.swaps g.A.Answerer.steps g.A.Answerer.stops c.args.counts client_saps l some c.args.carrier.now c.args.far.now c.in-Err.fault
+    c.leave_all.new.self.llc
     c.in-Err.ensures.err
 
 pub converse_all-requires-clause-under_way : goal.converse_all-requires-clause-under_way
@@ -43,7 +44,8 @@ returns-clause-ok g c =
     let some : some_open l client_saps ≡ true = search rules in
     let o : all_opening (leave_from client_saps) l ≡ record { llc = c.leave_all.new.self.llc; jobs = c.in-Ok.jobs.items } =
     subst (λ (z : ClientState). all_opening (leave_from client_saps) z.llc ≡ record { llc = c.leave_all.new.self.llc; jobs = c.in-Ok.jobs.items }) c.self.view_is c.in-Ok.ensures.ok in
-    close_so g.C.Carrier.seen g.C.Carrier.swaps g.A.Answerer.steps g.A.Answerer.stops c.args.counts client_saps l some c.leave_all.new.self.llc c.in-Ok.jobs.items o c.in-Ok-converse_all.ended c.converse_all.new.self.llc
+    close_so g.C.Carrier.seen g.C.Carrier.swaps g.A.Answerer.steps g.A.Answerer.stops c.args.counts client_saps l some c.leave_all.new.self.llc c.in-Ok.jobs.items o c.in-Ok-converse_all.ended
+    c.converse_all.new.self.llc
     c.args.carrier.now c.converse_all.new.carrier c.args.far.now c.converse_all.new.far c.in-Ok-converse_all.ensures.ok
 
 pub returns-in-Err-converse_all-clause-err : goal.returns-in-Err-converse_all-clause-err
@@ -53,7 +55,8 @@ returns-in-Err-converse_all-clause-err g c =
     let o : all_opening (leave_from client_saps) l ≡ record { llc = c.leave_all.new.self.llc; jobs = c.in-Ok.jobs.items } =
     subst (λ (z : ClientState). all_opening (leave_from client_saps) z.llc ≡ record { llc = c.leave_all.new.self.llc; jobs = c.in-Ok.jobs.items }) c.self.view_is c.in-Ok.ensures.ok in
     let failed = c.in-Err-converse_all.ensures.err in
-    λ going. close_fails g.C.Carrier.seen g.C.Carrier.swaps g.A.Answerer.steps g.A.Answerer.stops c.args.counts client_saps l some c.leave_all.new.self.llc c.in-Ok.jobs.items o failed.0 c.in-Err-converse_all.fault
+    λ going. close_fails g.C.Carrier.seen g.C.Carrier.swaps g.A.Answerer.steps g.A.Answerer.stops c.args.counts client_saps l some c.leave_all.new.self.llc c.in-Ok.jobs.items o failed.0
+    c.in-Err-converse_all.fault
     c.converse_all.new.self.llc c.args.carrier.now c.converse_all.new.carrier c.args.far.now c.converse_all.new.far failed.1
 
 pub returns-then-not-any_open-clause-closed : goal.returns-then-not-any_open-clause-closed

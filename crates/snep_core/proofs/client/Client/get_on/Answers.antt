@@ -76,14 +76,16 @@ pub returns-in-Err-ask-clause-fails : goal.returns-in-Err-ask-clause-fails
 returns-in-Err-ask-clause-fails g c = λ view peer a.
     let going : c.args.self.now.spent ≡ false = search rules in
     let small : c.args.acceptable < 2 ^ 32 = search rules in
-    get_fails g.C.Carrier.seen g.C.Carrier.swaps g.A.Answerer.steps g.A.Answerer.stops view peer (sap_of_slot c.args.slot) (slot_range c.args.slot c.requires.slot) c.args.acceptable small c.args.key.now c.requires.key
+    get_fails g.C.Carrier.seen g.C.Carrier.swaps g.A.Answerer.steps g.A.Answerer.stops view peer (sap_of_slot c.args.slot) (slot_range c.args.slot c.requires.slot) c.args.acceptable small
+    c.args.key.now c.requires.key
     c.args.self.now.llc c.args.carrier.now c.args.far.now a c.args.counts c.in-Err-ask.fault c.ask.new.self.llc c.ask.new.carrier c.ask.new.far
     (returns-in-Err-ask-clause-err g c going)
 
 pub returns-clause-value : goal.returns-clause-value
 returns-clause-value g c = λ view peer a.
     let small : c.args.acceptable < 2 ^ 32 = search rules in
-    IfOk-weaker c.value_of.result _ _ (λ value t. get_got g.C.Carrier.seen g.C.Carrier.swaps g.A.Answerer.steps g.A.Answerer.stops view peer (sap_of_slot c.args.slot) (slot_range c.args.slot c.requires.slot) c.args.acceptable small c.args.key.now c.requires.key
+    IfOk-weaker c.value_of.result _ _ (λ value t. get_got g.C.Carrier.seen g.C.Carrier.swaps g.A.Answerer.steps g.A.Answerer.stops view peer (sap_of_slot c.args.slot)
+    (slot_range c.args.slot c.requires.slot) c.args.acceptable small c.args.key.now c.requires.key
     c.args.self.now.llc c.args.carrier.now c.args.far.now a c.args.counts value.items c.ask.new.self.llc c.ask.new.carrier c.ask.new.far t)
     (returns-clause-ok g c)
 
@@ -91,6 +93,7 @@ pub returns-clause-fails : goal.returns-clause-fails
 returns-clause-fails g c = λ view peer a.
     let going : c.args.self.now.spent ≡ false = search rules in
     let small : c.args.acceptable < 2 ^ 32 = search rules in
-    IfErr-weaker c.value_of.result _ _ (λ fault t. get_fails g.C.Carrier.seen g.C.Carrier.swaps g.A.Answerer.steps g.A.Answerer.stops view peer (sap_of_slot c.args.slot) (slot_range c.args.slot c.requires.slot) c.args.acceptable small c.args.key.now c.requires.key
+    IfErr-weaker c.value_of.result _ _ (λ fault t. get_fails g.C.Carrier.seen g.C.Carrier.swaps g.A.Answerer.steps g.A.Answerer.stops view peer (sap_of_slot c.args.slot)
+    (slot_range c.args.slot c.requires.slot) c.args.acceptable small c.args.key.now c.requires.key
     c.args.self.now.llc c.args.carrier.now c.args.far.now a c.args.counts fault c.ask.new.self.llc c.ask.new.carrier c.ask.new.far t)
     (returns-clause-err g c going)

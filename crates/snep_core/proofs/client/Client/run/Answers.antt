@@ -21,9 +21,11 @@ returns-in-Err-clause-err g c =
     let eight : length slots ≡ slot_count = subst (λ (z : ClientState). length z.slots ≡ slot_count) c.self.view_is c.as_slice.ensures.eight in
     let w : some_staged slots ≡ true = search rules in
     let same : slots ≡ c.self.inside.slots = sym (ap (λ (z : ClientState). z.slots) c.self.view_is) in
-    λ going. subst (λ (ss : List Slot). RunFailsAt g.C.Carrier.seen g.C.Carrier.swaps g.A.Answerer.steps g.A.Answerer.stops c.args.counts l slots c.args.carrier.now c.args.far.now c.in-Err.fault c.begin_all.new.self.llc ss
+    λ going. subst (λ (ss : List Slot). RunFailsAt g.C.Carrier.seen g.C.Carrier.swaps g.A.Answerer.steps g.A.Answerer.stops c.args.counts l slots c.args.carrier.now c.args.far.now c.in-Err.fault
+    c.begin_all.new.self.llc ss
     c.args.carrier.now c.args.far.now) same
-    (run_rests slots fit eight g.C.Carrier.seen g.C.Carrier.swaps g.A.Answerer.steps g.A.Answerer.stops c.args.counts l c.begin_all.new.self.llc c.args.carrier.now c.args.far.now c.in-Err.fault w c.in-Err.ensures.err)
+    (run_rests slots fit eight g.C.Carrier.seen g.C.Carrier.swaps g.A.Answerer.steps g.A.Answerer.stops c.args.counts l c.begin_all.new.self.llc c.args.carrier.now c.args.far.now c.in-Err.fault w
+    c.in-Err.ensures.err)
 
 pub converse_all-requires-clause-under_way : goal.converse_all-requires-clause-under_way
 converse_all-requires-clause-under_way g c =
@@ -54,7 +56,8 @@ returns-in-Ok-converse_all-clause-ok g c =
     c.in-Ok.ensures.ok) in
     let told : c.converse_all.new.slots ≡ noted c.in-Ok-converse_all.jobs slots =
     subst (λ (z : ClientState). c.converse_all.new.slots ≡ noted c.in-Ok-converse_all.jobs z.slots) c.self.view_is c.in-Ok-converse_all.ensures.told in
-    run_done slots fit eight g.C.Carrier.seen g.C.Carrier.swaps g.A.Answerer.steps g.A.Answerer.stops c.args.counts l c.begin_all.new.self.llc c.converse_all.new.self.llc c.in-Ok.jobs.items c.in-Ok-converse_all.jobs
+    run_done slots fit eight g.C.Carrier.seen g.C.Carrier.swaps g.A.Answerer.steps g.A.Answerer.stops c.args.counts l c.begin_all.new.self.llc c.converse_all.new.self.llc c.in-Ok.jobs.items
+    c.in-Ok-converse_all.jobs
     c.converse_all.new.slots c.args.carrier.now c.converse_all.new.carrier c.args.far.now c.converse_all.new.far w o c.in-Ok-converse_all.ensures.ok told
 
 pub returns-in-Ok-converse_all-clause-ran : goal.returns-in-Ok-converse_all-clause-ran
@@ -64,7 +67,8 @@ returns-in-Ok-converse_all-clause-ran g c =
     let fit : AllFit slots = subst (λ (z : ClientState). AllFit z.slots) c.self.view_is c.as_slice.ensures.fit in
     let eight : length slots ≡ slot_count = subst (λ (z : ClientState). length z.slots ≡ slot_count) c.self.view_is c.as_slice.ensures.eight in
     let w : some_staged slots ≡ true = search rules in
-    λ view peer a. run_ended slots fit eight g.C.Carrier.seen g.C.Carrier.swaps g.A.Answerer.steps g.A.Answerer.stops view peer l c.args.carrier.now c.args.far.now a c.args.counts w c.converse_all.new.slots c.converse_all.new.self.llc
+    λ view peer a. run_ended slots fit eight g.C.Carrier.seen g.C.Carrier.swaps g.A.Answerer.steps g.A.Answerer.stops view peer l c.args.carrier.now c.args.far.now a c.args.counts w
+    c.converse_all.new.slots c.converse_all.new.self.llc
     c.converse_all.new.carrier c.converse_all.new.far (returns-in-Ok-converse_all-clause-ok g c)
 
 pub returns-in-Err-converse_all-clause-err : goal.returns-in-Err-converse_all-clause-err
@@ -82,7 +86,8 @@ returns-in-Err-converse_all-clause-err g c =
     let told : c.leave.new.self ≡ slots_left c.in-Err-converse_all.fault (noted failed.0 slots) =
     c.leave.ensures ∙ ap (slots_left c.in-Err-converse_all.fault)
     (subst (λ (z : ClientState). c.converse_all.new.slots ≡ noted failed.0 z.slots) c.self.view_is failed.2) in
-    λ going. run_stopped slots fit eight g.C.Carrier.seen g.C.Carrier.swaps g.A.Answerer.steps g.A.Answerer.stops c.args.counts l c.begin_all.new.self.llc c.converse_all.new.self.llc c.in-Ok.jobs.items failed.0
+    λ going. run_stopped slots fit eight g.C.Carrier.seen g.C.Carrier.swaps g.A.Answerer.steps g.A.Answerer.stops c.args.counts l c.begin_all.new.self.llc c.converse_all.new.self.llc
+    c.in-Ok.jobs.items failed.0
     c.leave.new.self c.args.carrier.now c.converse_all.new.carrier c.args.far.now c.converse_all.new.far c.in-Err-converse_all.fault w o failed.1 told
 
 pub returns-in-Err-converse_all-clause-fails : goal.returns-in-Err-converse_all-clause-fails
@@ -93,7 +98,8 @@ returns-in-Err-converse_all-clause-fails g c =
     let eight : length slots ≡ slot_count = subst (λ (z : ClientState). length z.slots ≡ slot_count) c.self.view_is c.as_slice.ensures.eight in
     let w : some_staged slots ≡ true = search rules in
     let going : c.args.self.now.spent ≡ false = search rules in
-    λ view peer a. run_failed slots fit eight g.C.Carrier.seen g.C.Carrier.swaps g.A.Answerer.steps g.A.Answerer.stops view peer l c.args.carrier.now c.args.far.now a c.args.counts w c.leave.new.self c.in-Err-converse_all.fault
+    λ view peer a. run_failed slots fit eight g.C.Carrier.seen g.C.Carrier.swaps g.A.Answerer.steps g.A.Answerer.stops view peer l c.args.carrier.now c.args.far.now a c.args.counts w c.leave.new.self
+    c.in-Err-converse_all.fault
     c.converse_all.new.self.llc c.converse_all.new.carrier c.converse_all.new.far (returns-in-Err-converse_all-clause-err g c going)
 
 pub returns-in-Err-clause-fails : goal.returns-in-Err-clause-fails

@@ -13,7 +13,8 @@ returns-in-Err-swap-clause-err g c =
     subst (λ b. Gives silent c.args.count c.args.self.now.llc b c.give.new.self) (sym c.deref.ensures.value) gives in
     let kept : c.ended.new.self.llc ≡ c.give.new.self = search rules in
     cut_failed g.C.Carrier.seen g.C.Carrier.swaps g.A.Answerer.steps g.A.Answerer.stops c.args.carrier.now c.args.far.now c.swap.new.self
-    c.swap.new.far c.args.self.now.llc c.give.new.self c.args.count c.deref.result.now sent c.ended.new.self.llc kept c.ended.result c.in-Err-swap.end c.swap.result c.in-Err-swap.is c.ended.ensures.fault
+    c.swap.new.far c.args.self.now.llc c.give.new.self c.args.count c.deref.result.now sent c.ended.new.self.llc kept c.ended.result c.in-Err-swap.end c.swap.result c.in-Err-swap.is
+    c.ended.ensures.fault
     c.in-Err-swap.ensures.err c.swap.ensures.ended c.in-Err-swap.ensures.failed
 
 pub returns-then-is_err-2-clause-err : goal.returns-then-is_err-2-clause-err

@@ -28,8 +28,11 @@ update_at-requires-clause-small c =
 
 pub update_at-requires-clause-low : goal.update_at-requires-clause-low
 update_at-requires-clause-low c =
-    let f = c.in-File in
-    (f.close, subst (λ xs. c.args.index < length (updates_in c.args.phase xs f.most f.close)) (sym c.as_slice.ensures) (subst (λ w. c.args.index < length (commands_at c.args.phase w)) f.is c.requires.low))
+    let f = c.in-File in (
+      f.close,
+      subst (λ xs. c.args.index < length (updates_in c.args.phase xs f.most f.close)) (sym c.as_slice.ensures)
+          (subst (λ w. c.args.index < length (commands_at c.args.phase w)) f.is c.requires.low),
+    )
 
 pub returns-in-Blocks : goal.returns-in-Blocks
 returns-in-Blocks c =
@@ -40,5 +43,6 @@ returns-in-Blocks c =
 pub returns-in-File : goal.returns-in-File
 returns-in-File c =
     let f = c.in-File in
-    c.update_at.ensures f.close (subst (λ xs. c.args.index < length (updates_in c.args.phase xs f.most f.close)) (sym c.as_slice.ensures) (subst (λ w. c.args.index < length (commands_at c.args.phase w)) f.is c.requires.low))
+    c.update_at.ensures f.close (subst (λ xs. c.args.index < length (updates_in c.args.phase xs f.most f.close)) (sym c.as_slice.ensures)
+    (subst (λ w. c.args.index < length (commands_at c.args.phase w)) f.is c.requires.low))
     ∙ ap (λ xs. command_at (updates_in c.args.phase xs f.most f.close) c.args.index) c.as_slice.ensures ∙ ap (λ w. command_at (commands_at c.args.phase w) c.args.index) (sym f.is)
