@@ -2,7 +2,7 @@
 
 ghost use Rattle.std.specs.Prelude.{◌≡◌, ◌++◌, option_map, IfOk};
 ghost use Rattle.snep_core.specs.First.{info_of};
-ghost use Rattle.snep_core.specs.Jobs.{Collects, ended_by, head_of, is_bare as bare_by, refusal as refusal_by};
+ghost use Rattle.snep_core.specs.Jobs.{Collects, ended_by, head_of, is_bare as bare_by, refusal_by_code};
 ghost use Rattle.snep_core.specs.Jobs.{sent_told, success_told, told, value_told, waiting_told};
 
 use crate::job::{Ending, Job, Refusal};
@@ -52,7 +52,7 @@ fn is_bare(head: Head, unit: &[u8]) -> bool
 
 /// The refusal that a code tells.
 fn refusal(most: Option<u32>, code: u8) -> Option<Refusal>
-    ensures { result ≡ refusal_by most code }
+    ensures { result ≡ refusal_by_code most code }
 {
     if code == Answer::Reject.code() {
         return Some(Refusal::Reject);
@@ -74,7 +74,7 @@ fn refusal(most: Option<u32>, code: u8) -> Option<Refusal>
 
 /// The job came to this refusal, if it is one.
 fn refused(most: Option<u32>, code: u8) -> Option<Job>
-    ensures { result ≡ option_map ended_by (refusal_by most code) }
+    ensures { result ≡ option_map ended_by (refusal_by_code most code) }
 {
     match refusal(most, code) {
         None => None,

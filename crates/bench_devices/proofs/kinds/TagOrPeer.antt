@@ -50,7 +50,7 @@ peer_kind (T5 d) peer = absurd cc
 peer_kind (T3 d) peer = absurd cc
 
 -- what isn't a peer is a tag
-pub tag_kind : DeviceKind → Bool
+unfoldable pub tag_kind : DeviceKind → Bool
 tag_kind T2Kind = true
 tag_kind T3Kind = true
 tag_kind T4Kind = true
