@@ -38,7 +38,8 @@ use Rattle.bench_world.specs.Obeying.{Machines, IsSettled, ObeyedBy, state_at, u
 use Rattle.bench_world.specs.Opened.{IsOpen}
 use Rattle.bench_world.specs.Peers.{Peers}
 use Rattle.bench_world.proofs.calm.CallCalm.{added_calm, made_calm}
-use Rattle.bench_world.proofs.open_link.OnLink.{Ends as FarEnds, end_is, leaves, linked_in, own, opened, stands, trace_is}
+use Rattle.bench_world.proofs.tags.Fronts.{Ends as FarEnds}
+use Rattle.bench_world.proofs.open_link.OnLink.{end_is, leaves, linked_in, own, opened, stands, trace_is}
 use Rattle.bench_world.proofs.open_link.Restarted.{set_there}
 use Rattle.bench_world.proofs.open_link.OnCall.{IsCall, Law, broke, came, end, events, from_state, gone_then, halted, link_then, next, open_then, place, plain, same, short}
 

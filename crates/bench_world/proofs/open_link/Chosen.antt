@@ -5,7 +5,8 @@ use Rattle.bench_world.specs.World.{FarEnd}
 use Rattle.bench_world.specs.Links.{OpenLink, end_numbered, is_number}
 use Rattle.bench_world.specs.Obeying.{Machines, IsSettled, under}
 use Rattle.bench_world.specs.Opened.{IsFirstWith}
-use Rattle.bench_world.proofs.open_link.OnLink.{Ends as FarEnds, one_place, opened}
+use Rattle.bench_world.proofs.tags.Fronts.{Ends as FarEnds}
+use Rattle.bench_world.proofs.open_link.OnLink.{one_place, opened}
 
 -- what stands at a place, whatever else would
 there : (os : FarEnds) (p : ℕ) (e : FarEnd) (w : Option FarEnd) → get_or os p None ≡ Some e → get_or os p w ≡ Some e

@@ -16,7 +16,8 @@ use Rattle.bench_world.specs.Legal.{Joins}
 use Rattle.bench_world.specs.Links.{OpenLink, accepted_by, with_last_ended}
 use Rattle.bench_world.specs.private.LinkTaken.{TakesLink, put_back, put_down}
 use Rattle.bench_world.specs.Obeying.{Machines, IsCutOffBy, IsSettled, ObeyedBy, under}
-use Rattle.bench_world.proofs.open_link.OnLink.{Ends as FarEnds, one_place, opened}
+use Rattle.bench_world.proofs.tags.Fronts.{Ends as FarEnds}
+use Rattle.bench_world.proofs.open_link.OnLink.{one_place, opened}
 use Rattle.bench_world.proofs.open_link.Restarted.{set_there}
 
 set_twice : (os : FarEnds) (n : ℕ) (x y : Option FarEnd) → slice_set (slice_set os n x) n y ≡ slice_set os n y

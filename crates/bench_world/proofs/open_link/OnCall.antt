@@ -53,7 +53,8 @@ use Rattle.bench_world.specs.Peers.{Peers, next_number}
 use Rattle.bench_world.proofs.link_law.Arrived.{GoesOn, came_at, cut_at, same_accepted}
 use Rattle.bench_world.proofs.open_link.CallNotes.{IsPlainNext, call_broken, call_lost, calls_plain}
 use Rattle.bench_world.proofs.calm.Quiet.{no_breaks}
-use Rattle.bench_world.proofs.open_link.OnLink.{Ends as FarEnds, accepted_now, accepted_there, as_many, bare, bare_alike, bare_more, devices_stay, end_is, end_shown, ends_more, ends_same, going}
+use Rattle.bench_world.proofs.tags.Fronts.{Ends as FarEnds}
+use Rattle.bench_world.proofs.open_link.OnLink.{accepted_now, accepted_there, as_many, bare, bare_alike, bare_more, devices_stay, end_is, end_shown, ends_more, ends_same, going}
 use Rattle.bench_world.proofs.open_link.OnLink.{kept_long, leaves, now, opened, own, queue_is, served, set_long, tame, trace_is, world_is}
 use Rattle.bench_world.proofs.open_link.Restarted.{set_there}
 

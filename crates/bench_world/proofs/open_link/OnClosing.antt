@@ -45,7 +45,8 @@ use Rattle.bench_world.proofs.link_law.Arrived.{came_at, cut_at}
 use Rattle.bench_world.proofs.open_link.CallEnds.{of_end}
 use Rattle.bench_world.proofs.open_link.CallNotes.{IsPlainNext, calls_plain, closing_broken, closing_lost, closings_plain}
 use Rattle.bench_world.proofs.calm.CallCalm.{IsCalm, added_calm, calm_then, made_calm}
-use Rattle.bench_world.proofs.open_link.OnLink.{Ends as FarEnds, accepted_now, going, leaves, own, stands, trace_is}
+use Rattle.bench_world.proofs.tags.Fronts.{Ends as FarEnds}
+use Rattle.bench_world.proofs.open_link.OnLink.{accepted_now, going, leaves, own, stands, trace_is}
 use Rattle.bench_world.proofs.calm.Quiet.{no_breaks}
 use Rattle.bench_world.proofs.open_link.ReleaseCalm.{release_calm}
 use Rattle.bench_world.proofs.open_link.OnCall.{cut_off, devices_then, end, ends_then, from_state, given_by, halted, obeyed, place, world_then}

@@ -42,7 +42,7 @@ use Rattle.bench_world.specs.private.LinkTaken.{TakesLink, fault_told, put_back,
 use Rattle.bench_world.specs.Obeying.{Machines, IsCutOffBy, IsSettled, ObeyedBy, state_at, under}
 use Rattle.bench_world.specs.Peers.{Peers}
 use Rattle.bench_world.proofs.open_link.OnCall.{given_by}
-use Rattle.bench_world.proofs.open_link.OnLink.{Ends as FarEnds}
+use Rattle.bench_world.proofs.tags.Fronts.{Ends as FarEnds}
 use Rattle.bench_world.proofs.open_link.CloseOver as closing
 use Rattle.bench_world.proofs.open_link.LinkOver.{Before, GoneAt, OpenAt, accords, called, counted, far_is, gone_so, its, link, open_so, short_so, so, spot}
 use Rattle.bench_world.proofs.open_link.Saying.{Left, LeftBy, Says, all_left, find_left, get_left, put_left, says_all, says_find, says_get, says_put}

@@ -25,7 +25,7 @@ use Rattle.bench_world.specs.Halting.{HaltAdded, Halts, PeerHalts}
 use Rattle.bench_world.specs.Links.{OpenLink}
 use Rattle.bench_world.specs.Obeying.{Machines, IsCutOffBy, IsSettled, ObeyedBy, state_at, under}
 use Rattle.bench_world.specs.Peers.{Peers}
-use Rattle.bench_world.proofs.open_link.OnLink.{Ends as FarEnds}
+use Rattle.bench_world.proofs.tags.Fronts.{Ends as FarEnds}
 use Rattle.bench_world.proofs.open_link.OnCall.{IsCall, end, from_state, given_by}
 use Rattle.bench_world.proofs.open_link.CallEnds.{Gone, Open, lost_obeyed, made_obeyed, of_end, short_cut}
 use Rattle.bench_world.proofs.open_link.Saying.{Left, Says, loss_adds, loss_tells}
